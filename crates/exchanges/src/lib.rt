@@ -1,0 +1,3 @@
+// Backplanes that join boards, and exchanges over them.
+pub mod backplane;
+pub mod exchange;
