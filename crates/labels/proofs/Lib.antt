@@ -1,0 +1,5 @@
+pub mod Orders
+pub mod Fours
+pub mod Codings
+pub mod Laying
+pub mod Trips
