@@ -76,5 +76,8 @@ abbrev pub digit : ℕ → ℕ → ℕ
 digit n k = 48 + n / 10 ^ k % 10
 
 -- a stamp is printed as seconds, a point and eight digits
+abbrev pub time-text : ℕ → ℕ → List ℕ
+time-text s t = decimal s ++ (codes "." ++ map (digit t) (7 ∷ 6 ∷ 5 ∷ 4 ∷ 3 ∷ 2 ∷ 1 ∷ 0 ∷ []))
+
 abbrev pub stamp-text : TriggerStamp → List ℕ
-stamp-text s = decimal (s .seconds) ++ (codes "." ++ map (digit (s .ticks)) (7 ∷ 6 ∷ 5 ∷ 4 ∷ 3 ∷ 2 ∷ 1 ∷ 0 ∷ []))
+stamp-text s = time-text (s .seconds) (s .ticks)

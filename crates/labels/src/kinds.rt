@@ -130,3 +130,21 @@ pub impl fmt::Display for FrameNumber as FrameNumberDisplay {
         write!(f, "{number}")
     }
 }
+
+pub impl fmt::Display for TriggerStamp as TriggerStampDisplay {
+    ghost shown = { λ s. Some (stamp-text s) };
+
+    // Seconds, a point and eight digits.
+    fn fmt<W: fmt::Write>(&self, f: &mut fmt::Formatter<W>) -> fmt::Result {
+        let s = self.seconds();
+        let t = self.ticks();
+        let (a, b, c, d) = (
+            t / 10_000_000 % 10,
+            t / 1_000_000 % 10,
+            t / 100_000 % 10,
+            t / 10_000 % 10,
+        );
+        let (e, g, h, i) = (t / 1_000 % 10, t / 100 % 10, t / 10 % 10, t % 10);
+        write!(f, "{s}.{a}{b}{c}{d}{e}{g}{h}{i}")
+    }
+}

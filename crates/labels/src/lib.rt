@@ -8,4 +8,5 @@ pub mod order;
 pub mod reading;
 pub mod refusal;
 pub mod slip;
+pub mod smallest;
 pub mod trigger_stamp;
