@@ -85,6 +85,24 @@ fn one_byte_short() -> Result<(), Fail> {
     check_eq(out, [7; 7])
 }
 
+fn read_two(input: &[u8]) -> Result<(FrameNumber, FrameNumber), Fault> {
+    let (first, next) = read_label(input, 0)?;
+    let (second, _) = read_label(input, next)?;
+    Ok((first, second))
+}
+
+#[test]
+fn a_fault_is_carried_unchanged() -> Result<(), Fail> {
+    let fault = Fault {
+        refusal: Refusal::InputEnds,
+        place: 4,
+        reader: Reader::Label,
+    };
+    check_eq(read_two(&[0; 7]), Err(fault))?;
+    let (first, second) = read_two(&[0, 0, 0, 1, 0, 0, 0, 2])?;
+    check_eq((first.number(), second.number()), (1, 2))
+}
+
 #[test]
 fn seconds_come_before_ticks() -> Result<(), Fail> {
     let early = TriggerStamp::new(1, 99_999_999)?;
