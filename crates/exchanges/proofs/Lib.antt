@@ -1,0 +1,5 @@
+pub mod Places
+pub mod Frames
+pub mod Overs
+pub mod Dues
+pub mod Asks

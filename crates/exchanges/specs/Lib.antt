@@ -4,3 +4,4 @@ pub mod Exchange
 pub mod Asked
 pub mod Plain
 pub mod Over
+pub mod Ran
