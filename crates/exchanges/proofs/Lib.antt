@@ -3,3 +3,4 @@ pub mod Frames
 pub mod Overs
 pub mod Dues
 pub mod Asks
+pub mod Runs
