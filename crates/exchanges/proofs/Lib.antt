@@ -4,3 +4,4 @@ pub mod Overs
 pub mod Dues
 pub mod Asks
 pub mod Runs
+pub mod Cuts

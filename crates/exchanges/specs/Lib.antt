@@ -5,3 +5,5 @@ pub mod Asked
 pub mod Plain
 pub mod Over
 pub mod Ran
+pub mod TwoFaced
+pub mod CutLines
