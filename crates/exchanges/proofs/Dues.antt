@@ -1,5 +1,5 @@
 -- What it says that no refusal is due. Assumes nothing.
-use mathlib.Core.Path.{_≡_, refl}
+use mathlib.Core.Path.{_≡_, refl, sym, ap, _∙_}
 use mathlib.Core.Bool.{Bool, true, false, not}
 use mathlib.Core.List.{List, [], _∷_}
 use Prim.Native.Nat.{ℕ, _+_, _*_, _≤_}
@@ -32,3 +32,8 @@ pub long-heard : {X : Type 0} (n : ℕ) (s h : List X) → short n s h ≡ false
 long-heard n s h e =
     let parts = or-parts (ltb (length s) n) (ltb (length h) (n * n)) e in
     ltb-false _ _ (parts .1)
+
+-- the same by what calls answered: n, z and q are the boards, whether memory is short, and the round
+pub none-due : (n m t q r k : ℕ) (sh : ℕ → Bool) (z : Bool) → n ≡ m → z ≡ sh n → q ≡ r → None ≡ due n t z q k → due m t (sh m) r k ≡ None
+none-due n m t q r k sh z en ez er e =
+    sym (e ∙ (λ i. due (en i) t ((ez ∙ ap sh en) i) (er i) k))

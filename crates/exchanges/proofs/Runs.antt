@@ -1,5 +1,5 @@
 -- The steps of a plain exchange, as loops take them. Assumes nothing.
-use mathlib.Core.Path.{_≡_, refl, sym, ap, subst, _∙_}
+use mathlib.Core.Path.{_≡_, refl, sym, ap, _∙_}
 use mathlib.Core.List.{List, _++_}
 use Prim.Native.Nat.{ℕ, _+_, _*_, _≤_}
 use native.Mathlib.Numerals.{add-one}
@@ -23,11 +23,10 @@ from-more n sent s x h h′ h″ r e f =
     f ∙ (λ i. to-each n (r i) s (e i) n) ∙ ap (from-each n sent h) (sym (add-one s))
 
 -- what the loops leave is what a plain exchange leaves
-pub plain-ran : {I : Type 0} (n : ℕ) (b b₁ b′ : Plane I) (x h h′ : List (Option I)) → n ≡ b .boards → b₁ ≡ after b turn → heard-at b′ h′ ≡ from-each n x (heard-at b₁ h) n → n * n ≤ length h → (b′ ≡ plain-run b (take (b .boards) x) .plane) × (h′ ≡ plain-run b (take (b .boards) x) .slots ++ drop (b .boards * b .boards) h)
+pub plain-ran : {I : Type 0} (n : ℕ) (b b₁ b′ : Plane I) (x h h′ : List (Option I)) → n ≡ b .boards → b₁ ≡ after b turn → heard-at b′ h′ ≡ from-each n x (heard-at b₁ h) n → b .boards * b .boards ≤ length h → (b′ ≡ plain-run b (take (b .boards) x) .plane) × (h′ ≡ plain-run b (take (b .boards) x) .slots ++ drop (b .boards * b .boards) h)
 plain-ran {I} n b b₁ b′ x h h′ en eb e room =
     let m = b .boards in
     let e′ : heard-at b′ h′ ≡ from-each m x (heard-at (after b turn) h) m = e ∙ (λ i. from-each (en i) x (heard-at (eb i) h) (en i)) in
-    let room′ : m * m ≤ length h = subst (λ k. k * k ≤ length h) en room in
     let z : List (Option I) = replicate (m * m) None in
     let cut = sym (from-take m x (heard-at (after b turn) z) m (omega arith)) in
-    (ap (λ k. k .plane) e′ ∙ from-plane m x (heard-at (after b turn) h) (heard-at (after b turn) z) m refl ∙ ap (λ k. k .plane) cut, ap (λ k. k .slots) e′ ∙ from-front m x (after b turn) h room′ ∙ ap (λ k. k .slots ++ drop (m * m) h) cut)
+    (ap (λ k. k .plane) e′ ∙ from-plane m x (heard-at (after b turn) h) (heard-at (after b turn) z) m refl ∙ ap (λ k. k .plane) cut, ap (λ k. k .slots) e′ ∙ from-front m x (after b turn) h room ∙ ap (λ k. k .slots ++ drop (m * m) h) cut)
