@@ -4,3 +4,6 @@ pub mod Exchange
 pub mod Asked
 pub mod Plain
 pub mod Over
+pub mod Ran
+pub mod TwoFaced
+pub mod CutLines

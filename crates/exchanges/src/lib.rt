@@ -1,3 +1,7 @@
 // Backplanes that join boards, and exchanges over them.
 pub mod backplane;
+pub mod cut_lines;
 pub mod exchange;
+mod maps;
+mod plain;
+pub mod two_faced;
