@@ -5,3 +5,6 @@ pub mod Asked
 pub mod Plain
 pub mod Over
 pub mod Ran
+pub mod Trees
+pub mod Reduction
+pub mod Slots

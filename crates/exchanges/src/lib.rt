@@ -1,3 +1,4 @@
 // Backplanes that join boards, and exchanges over them.
 pub mod backplane;
 pub mod exchange;
+pub mod tree;

@@ -1,0 +1,10 @@
+// The tree exchange.
+ghost use mathlib.Core.Path.{_≡_};
+ghost use Rattle.exchanges.specs.Trees.{Trees-keep, Own-places};
+
+pub fn tree_laws<I>() -> u8
+    ensures keep { λ _. ⌜ Trees-keep I ⌝ }
+    ensures places { λ _. ⌜ Own-places ⌝ }
+{
+    0
+}
