@@ -15,7 +15,7 @@ use Rattle.std.specs.declared.option.Option.the-variants.{Some, None}
 use Rattle.labels.specs.Item.{Tells}
 use Rattle.exchanges.specs.Trees.{IsPath, Trees, holds, picked, reduce, reduced, on, others}
 use Rattle.exchanges.proofs.Counts.{count-le, count-not, count-kept, count-map, map-same, meet, length-others, all-others, path-short}
-use Rattle.exchanges.proofs.Reduce.{picked-held, holds-is, is-holds, picked-some}
+use Rattle.exchanges.proofs.Reduce.{cases-option, some-none, picked-held, holds-is, is-holds, picked-some}
 
 -- what p's tree holds at the path α with a sound q added is what q's tree holds at α, or silence
 abbrev pub Lossy : {I : Type 0} → ℕ → ℕ → (ℕ → Bool) → Trees I → Type 0
@@ -24,13 +24,6 @@ Lossy n t bad T = (p q : ℕ) (α : List ℕ) → p < n → IsPath n (q ∷ α) 
 -- and, between sound boards, it is not silence
 abbrev pub Lossless : {I : Type 0} → ℕ → ℕ → (ℕ → Bool) → Trees I → Type 0
 Lossless n t bad T = (p q : ℕ) (α : List ℕ) → p < n → bad p ≡ false → IsPath n (q ∷ α) → length α ≤ t → bad q ≡ false → T p (q ∷ α) ≡ T q α
-
-pub cases-option : {I : Type 0} (o : Option I) → (o ≡ None) ⊎ ((x : I) × (o ≡ Some x))
-cases-option None = inl refl
-cases-option (Some x) = inr (x, refl)
-
-pub some-none : {I : Type 0} {x : I} {A : Type 0} (o : Option I) → o ≡ Some x → o ≡ None → A
-some-none o e d = absurd (let z : _≡_ {A = ℕ} 0 1 = cc in omega arith)
 
 -- One path β of length at most t, with what its children hold.
 module _ {I : Type 0} (same : I → I → Bool) (tells : Tells same) (n t : ℕ) (bad : ℕ → Bool) (room : 3 * t < n) (few : countBy bad (counting 0 n) ≤ t) (β : List ℕ) (path : IsPath n β) (short : length β ≤ t) where

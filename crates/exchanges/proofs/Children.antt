@@ -33,7 +33,7 @@ kept-index f a (suc m) (suc j) d l =
     let last = count-last f a in
     elim (cases-bool (f a)) [ inl y ↦ (let is = cond-true (f a) (a ∷ rest) rest y in let ih = kept-index f (a + 1) m j d (omega (arith, ap length is)) in let some : _≡_ {A = ℕ} (cond (f a) 1 0) 1 = ap (λ (b : Bool). cond b 1 0) y in ap (λ (xs : List ℕ). countBy f (counting 0 (getD xs (suc j) d))) is ∙ ih ∙ omega arith) | inr y ↦ (let is = cond-false (f a) (a ∷ rest) rest y in let ih = kept-index f (a + 1) m (suc j) d (omega (arith, ap length is)) in let none : _≡_ {A = ℕ} (cond (f a) 1 0) 0 = ap (λ (b : Bool). cond b 1 0) y in ap (λ (xs : List ℕ). countBy f (counting 0 (getD xs (suc j) d))) is ∙ ih ∙ omega arith) ]
 
-other-index : (n : ℕ) (α : List ℕ) (j : ℕ) → IsPath n α → j < length (others n α) → getD (others n α) j 0 - lower (getD (others n α) j 0) α ≡ j
+pub other-index : (n : ℕ) (α : List ℕ) (j : ℕ) → IsPath n α → j < length (others n α) → getD (others n α) j 0 - lower (getD (others n α) j 0) α ≡ j
 other-index n α j path l =
     omega (arith, kept-index (λ q. not (on q α)) 0 n j 0 l, off-below (getD (others n α) j 0) n α path)
 
@@ -61,7 +61,7 @@ module _ (n t size p : ℕ) (α : List ℕ) (sized : size ≡ tree-size n t) (lp
       let k1 : k + 1 ≡ suc k = omega arith in
       ext-getD None (take (n - k) (drop (children-at n size p α) ws)) (map f (others n α)) (left ∙ sym size-is ∙ sym (length-map (others n α) f))
       (λ j l. let jn : j < n - k = omega arith in let at : children-at n size p α + j ≡ slot n size p (getD (others n α) j 0 ∷ α) = omega (arith, other-index n α j path (omega arith), ap (start n) k1) in
-        getD-take (n - k) (drop (children-at n size p α) ws) j None jn ∙ getD-drop (children-at n size p α) ws j None ∙ ap (λ (i : ℕ). getD ws i None) at ∙ sym (getD-map f (others n α) j 0 None (omega arith)))
+      getD-take (n - k) (drop (children-at n size p α) ws) j None jn ∙ getD-drop (children-at n size p α) ws j None ∙ ap (λ (i : ℕ). getD ws i None) at ∙ sym (getD-map f (others n α) j 0 None (omega arith)))
 
 -- the same for a path held in the first entries of a list
 module _ (n t size owns slots p : ℕ) (bs : List ℕ) (k kr ch : ℕ) (room : Room n t size owns slots) (lp : p < n) (path : IsPath n (trail bs k)) (one : 1 ≤ k) (short : k ≤ t) (k-is : kr ≡ k) (ch-is : ch ≡ start n (k + 1) + rank n (trail bs k) * (n - k)) where

@@ -39,7 +39,7 @@ heard-more {I} f xs entry k v l e d =
 pub grid-reduced : {I : Type 0} (same : I → I → Bool) (n t size : ℕ) (sized : size ≡ tree-size n t) (own ws ws₂ : List (Option I)) (T : Trees I) → Stands n t size own ws T → n * size ≤ length ws → ws₂ ≡ reduced-down same n t size ws t → grid n (λ p q. getD ws₂ (p * size + q) None) ≡ grid n (λ p q. reduced same n t T t p (q ∷ []))
 grid-reduced {I} same n t size sized own ws ws₂ T st room e =
     map-same _ _ (counting 0 (n * n)) (all-counting _ 0 (n * n) (λ k u l.
-      let small : k < n * n = omega arith in
-      let pos = some-boards n k small in
-      let deep : t + 1 - 1 ≡ t = omega arith in
-      ap (λ (x : List (Option I)). getD x (k / n * size + k % n) None) e ∙ ap (λ (i : ℕ). getD (reduced-down same n t size ws t) (k / n * size + i) None) (sym (place-single n (k % n))) ∙ all-reduced same n t size sized own ws T st room (k / n) (k % n ∷ []) (div-below k n n pos small) (mod-below k n pos, refl, tt) (omega arith) (omega arith) ∙ ap (λ (m : ℕ). reduced same n t T m (k / n) (k % n ∷ [])) deep))
+    let small : k < n * n = omega arith in
+    let pos = some-boards n k small in
+    let deep : t + 1 - 1 ≡ t = omega arith in
+    ap (λ (x : List (Option I)). getD x (k / n * size + k % n) None) e ∙ ap (λ (i : ℕ). getD (reduced-down same n t size ws t) (k / n * size + i) None) (sym (place-single n (k % n))) ∙ all-reduced same n t size sized own ws T st room (k / n) (k % n ∷ []) (div-below k n n pos small) (mod-below k n pos, refl, tt) (omega arith) (omega arith) ∙ ap (λ (m : ℕ). reduced same n t T m (k / n) (k % n ∷ [])) deep))

@@ -21,3 +21,4 @@ pub mod Children
 pub mod Settle
 pub mod Heard
 pub mod Whole
+pub mod Spread

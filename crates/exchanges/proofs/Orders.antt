@@ -19,7 +19,7 @@ folded-append : {A B : Type 0} (f : B → A → B) (a : B) (xs ys : List A) → 
 folded-append f a [] ys = refl
 folded-append f a (x ∷ xs) ys = folded-append f (f a x) xs ys
 
-joined-append : {X Y : Type 0} (f : Y → List X) (xs ys : List Y) → joined f (xs ++ ys) ≡ joined f xs ++ joined f ys
+pub joined-append : {X Y : Type 0} (f : Y → List X) (xs ys : List Y) → joined f (xs ++ ys) ≡ joined f xs ++ joined f ys
 joined-append f [] ys = refl
 joined-append f (x ∷ xs) ys = ap (λ l. f x ++ l) (joined-append f xs ys) ∙ sym (append-assoc (f x) (joined f xs) (joined f ys))
 

@@ -105,6 +105,7 @@ module _ {I : Type 0} (same : I → I → Bool) (n t : ℕ) where
       where
         v : Option I
         v = reduce same n t (length (s .path)) (map (λ q. getD ws (slot n size (s .board) (q ∷ s .path)) None) (others n (s .path)))
+
         put-at : (α : List ℕ) → IsPath n α → length α ≡ k → Stands n t size own (set ws (slot n size (s .board) α) v) (put T (s .board) α v)
         put-at [] path e = absurd (omega arith)
         put-at (q ∷ α) path e = stands-put n t size sized own ws T (s .board) q α v st room (at .0) path (omega arith)
