@@ -1,16 +1,17 @@
 -- What it says that no refusal is due. Assumes nothing.
-use mathlib.Core.Path.{_≡_, refl}
+use mathlib.Core.Path.{_≡_, refl, sym, ap, _∙_}
 use mathlib.Core.Bool.{Bool, true, false, not}
-use mathlib.Core.List.{[], _∷_}
-use Prim.Native.Nat.{ℕ, _+_, _≤_}
+use mathlib.Core.List.{List, [], _∷_}
+use Prim.Native.Nat.{ℕ, _+_, _*_, _≤_}
 use native.Mathlib.Omega.{arith}
 use lib.Dec.{ltb}
-use Rattle.std.proofs.shelf.Tests.{ltb-false}
+use lib.ListN.{length}
+use Rattle.std.proofs.shelf.Tests.{ltb-false, or-parts}
 use Rattle.std.specs.declared.option.Option.the-variants.{None}
 use Rattle.labels.specs.Refusals.{first-row}
 use Rattle.exchanges.specs.Boards.{fits}
 use Rattle.exchanges.specs.Plane.{last-round}
-use Rattle.exchanges.specs.Asked.{due}
+use Rattle.exchanges.specs.Asked.{due, short}
 
 -- an exchange of k rounds begun at round r is not refused
 pub record Undue (n t r k : ℕ) (sh : Bool) : Type 0 where
@@ -26,3 +27,13 @@ undue n t r k sh e = go (fits n t) sh (ltb last-round (r + k)) refl refl refl e
     go true false true a b c h = absurd (let z : _≡_ {A = ℕ} 0 1 = cc in omega arith)
     go true false false a b c h = record { fit = a; room = b; timely = ltb-false _ _ c }
     go false s l a b c h = absurd (let z : _≡_ {A = ℕ} 0 1 = cc in omega arith)
+
+pub long-heard : {X : Type 0} (n : ℕ) (s h : List X) → short n s h ≡ false → n * n ≤ length h
+long-heard n s h e =
+    let parts = or-parts (ltb (length s) n) (ltb (length h) (n * n)) e in
+    ltb-false _ _ (parts .1)
+
+-- the same by what calls answered: n, z and q are the boards, whether memory is short, and the round
+pub none-due : (n m t q r k : ℕ) (sh : ℕ → Bool) (z : Bool) → n ≡ m → z ≡ sh n → q ≡ r → None ≡ due n t z q k → due m t (sh m) r k ≡ None
+none-due n m t q r k sh z en ez er e =
+    sym (e ∙ (λ i. due (en i) t ((ez ∙ ap sh en) i) (er i) k))

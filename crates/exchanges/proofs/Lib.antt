@@ -22,3 +22,5 @@ pub mod Settle
 pub mod Heard
 pub mod Whole
 pub mod Spread
+pub mod Runs
+pub mod Cuts

@@ -8,3 +8,5 @@ pub mod Ran
 pub mod Trees
 pub mod Reduction
 pub mod Slots
+pub mod TwoFaced
+pub mod CutLines
