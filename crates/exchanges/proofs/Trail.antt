@@ -12,7 +12,7 @@ use Rattle.exchanges.specs.Boards.{most-boards}
 use Rattle.exchanges.specs.Trees.{on, lower, rank, start, place, paths-of, IsPath}
 use Rattle.exchanges.specs.Slots.{trail}
 use Rattle.exchanges.proofs.Counts.{count-yes, count-no}
-use Rattle.exchanges.proofs.Ranks.{off-below, rank-below, other-at, place-single}
+use Rattle.exchanges.proofs.Ranks.{off-below, rank-below, other-at}
 use Rattle.exchanges.proofs.Table.{paths-small, start-small}
 
 pub trail-more : (bs : List ℕ) (i : ℕ) → trail bs (i + 1) ≡ getD bs i 0 ∷ trail bs i
@@ -60,8 +60,3 @@ place-split n bs k p s e d =
 
 pub place-small : (n : ℕ) (bs : List ℕ) (k : ℕ) → n ≤ most-boards → k ≤ 3 → IsPath n (trail bs k) → place n (trail bs k) < 259
 place-small n bs k ln lk path = omega (arith, rank-below n (trail bs k) path, ap (paths-of n) (length-trail bs k), ap (start n) (length-trail bs k), paths-small n k ln lk, start-small n k ln lk)
-
-pub place-first : (n : ℕ) (bs : List ℕ) (k : ℕ) → k ≡ 1 → getD bs (k - 1) 0 ≡ place n (trail bs k)
-place-first n bs k e =
-    let d : k ≡ suc zero = omega arith in
-    ap (λ (m : ℕ). getD bs (m - 1) 0) e ∙ sym (place-single n (getD bs 0 0)) ∙ ap (λ (m : ℕ). place n (trail bs m)) (sym d)

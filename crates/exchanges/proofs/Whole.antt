@@ -8,7 +8,10 @@ use Rattle.std.specs.Iters.{folded}
 use Rattle.std.proofs.shelf.Lists.{getD-take}
 use Rattle.std.specs.declared.option.Option.{Option}
 use Rattle.std.specs.declared.option.Option.the-variants.{None}
-use Rattle.exchanges.specs.Plane.{Plane, turn, after, last-round}
+use Rattle.std.specs.declared.result.Result.{Result}
+use Rattle.std.specs.declared.result.Result.the-variants.{Ok, Err}
+use Rattle.labels.specs.declared.refusal.Refusal.{Refusal}
+use Rattle.exchanges.specs.Plane.{Plane, turn, after, last-round, Turned}
 use Rattle.exchanges.specs.Trees.{IsPath, Run, Hop, hop, hops, fill, fill-round, filled, tree-size}
 use Rattle.exchanges.specs.Trees.{own as own-of}
 use Rattle.exchanges.specs.Slots.{held, Work, Worked, carried, hops-under, Stands}
@@ -54,6 +57,11 @@ module _ {I : Type 0} (n t size : ℕ) (own : List (Option I)) where
   agrees-last rest b b₂ ws ws₂ a =
       let same = fill-alike n (t + 1) (first b ws) (record { plane = b; trees = own-of (take n own) }) (alike-first b ws) in
       (a .planes ∙ same .planes, record { sends = λ q l. sym (same .short q [] l tt (omega arith)) ∙ a .stands .sends q l; holds = λ p α lp path one m. a .stands .holds p α lp path one m ∙ same .short p α lp path m })
+
+-- a turn below the last round goes
+pub turned-on : {I S U : Type 0} (plane : S → Plane I) (s s′ : S) (r : Result U Refusal) → Turned plane s s′ r → plane s .round < last-round → plane s′ ≡ after (plane s) turn
+turned-on plane s s′ (Ok u) k l = k .1
+turned-on plane s s′ (Err e) k l = absurd (omega (arith, k .1))
 
 -- within the time there is a next round
 pub below-last : {I : Type 0} (b₀ b : Plane I) (n r : ℕ) (R : Run I) → R .plane ≡ b₀ → b ≡ fill n r R .plane → b₀ .round + suc r ≤ last-round → b .round < last-round

@@ -1,0 +1,101 @@
+// The reduction of the trees, path by path.
+ghost use mathlib.Core.Path.{_≡_};
+ghost use Prim.Native.Nat.{_+_, _-_, _*_, _<_, _≤_};
+ghost use lib.ListN.{length, take, drop};
+ghost use Rattle.std.specs.Iters.{folded};
+ghost use Rattle.std.specs.shelf.Lists.{countBy};
+ghost use Rattle.exchanges.specs.Trees.{holds, picked, IsPath};
+ghost use Rattle.exchanges.specs.Slots.{trail, Room, settle, spots-on, spots-under, reduced-down};
+use crate::path::Path;
+use labels::item::Item;
+
+// How many slots hold the item.
+fn holding<I: Item>(slots: &[Option<I>], x: I) -> usize
+    ensures { λ r. ⌜ r ≡ countBy (holds same x) (now (slots .entry)) ⌝ }
+{
+    let mut count = 0;
+    for s in slots {
+        if let Some(y) = *s {
+            if x.is_same(y) {
+                count += 1;
+            }
+        }
+    }
+    count
+}
+
+// The first item that at least `need` of the slots hold, or silence.
+fn settled<I: Item>(slots: &[Option<I>], need: usize) -> Option<I>
+    ensures { λ r. ⌜ r ≡ picked same need (now (slots .entry)) (now (slots .entry)) ⌝ }
+{
+    for s in slots {
+        if let Some(x) = *s {
+            if need <= holding(slots, x) {
+                return Some(x);
+            }
+        }
+    }
+    None
+}
+
+// The same over `len` slots from `first`.
+fn settled_in<I: Item>(slots: &[Option<I>], first: usize, len: usize, need: usize) -> Option<I>
+    requires { ⌜ first + len ≤ length (now slots) ⌝ }
+    ensures { λ r. ⌜ r ≡ picked same need (take len (drop first (now (slots .entry)))) (take len (drop first (now (slots .entry)))) ⌝ }
+{
+    settled(&slots[first..first + len], need)
+}
+
+// Board p's slot of a path gets what its children settle on.
+fn reduce_at<I: Item>(ws: &mut [Option<I>], n: usize, t: usize, size: usize, p: usize, path: Path)
+    requires room { ⌜ Room n t size n (length (now ws)) ⌝ }
+    requires board { ⌜ p < n ⌝ }
+    requires short { ⌜ (1 ≤ path .len) × (path .len ≤ t) ⌝ }
+    requires path { ⌜ IsPath n (trail (path .boards) (path .len)) ⌝ }
+    ensures { λ _. ⌜ now (ws .exit) ≡ settle same n t size (now (ws .entry)) (record { board = p; path = trail (path .boards) (path .len) }) ⌝ }
+{
+    let k = path.len();
+    let first = p * size + path.children(n);
+    let item = settled_in(ws, first, n - k, n - k - t);
+    ws[p * size + path.place(n)] = item;
+}
+
+// A path reduced for every board.
+fn reduce_on<I: Item>(ws: &mut [Option<I>], n: usize, t: usize, size: usize, path: Path)
+    requires room { ⌜ Room n t size n (length (now ws)) ⌝ }
+    requires short { ⌜ (1 ≤ path .len) × (path .len ≤ t) ⌝ }
+    requires path { ⌜ IsPath n (trail (path .boards) (path .len)) ⌝ }
+    ensures { λ _. ⌜ now (ws .exit) ≡ folded (settle same n t size) (now (ws .entry)) (spots-on n (trail (path .boards) (path .len))) ⌝ }
+{
+    for p in 0..n {
+        reduce_at(ws, n, t, size, p, path);
+    }
+}
+
+// All paths that have `more` boards more reduced, for every board.
+fn reduce_under<I: Item>(ws: &mut [Option<I>], n: usize, t: usize, size: usize, path: Path, more: usize)
+    requires room { ⌜ Room n t size n (length (now ws)) ⌝ }
+    requires short { ⌜ (1 ≤ path .len + more) × (path .len + more ≤ t) ⌝ }
+    requires path { ⌜ IsPath n (trail (path .boards) (path .len)) ⌝ }
+    ensures { λ _. ⌜ now (ws .exit) ≡ folded (settle same n t size) (now (ws .entry)) (spots-under n (trail (path .boards) (path .len)) more) ⌝ }
+{
+    if more == 0 {
+        reduce_on(ws, n, t, size, path);
+        return;
+    }
+    for q in 0..n {
+        if !path.has(q) {
+            reduce_under(ws, n, t, size, path.add(q as u8), more - 1);
+        }
+    }
+}
+
+// The paths of length t down to 1 reduced, for every board.
+pub(crate) fn reduce_all<I: Item>(ws: &mut [Option<I>], n: usize, t: usize, size: usize)
+    requires room { ⌜ Room n t size n (length (now ws)) ⌝ }
+    ensures { λ _. ⌜ now (ws .exit) ≡ reduced-down same n t size (now (ws .entry)) t ⌝ }
+{
+    for j in 0..t {
+        reduce_under(ws, n, t, size, Path::empty(), t - j);
+    }
+}
