@@ -13,9 +13,9 @@ use Rattle.exchanges.proofs.Places.{from-plane, from-take, from-front}
 use Rattle.exchanges.specs.Plain.{Heard, receive, to-each, from-each, plain-run}
 
 -- one carry more
-pub to-more : {I : Type 0} (n : ℕ) (x : Option I) (s d : ℕ) (h : Heard I) (b b′ : Plane I) (slots : List (Option I)) (r : Option I) → heard-at b slots ≡ to-each n x s h d → Carried b b′ s d x r → heard-at b′ (set slots (d * n + s) r) ≡ to-each n x s h (d + 1)
-to-more n x s d h b b′ slots r e c =
-    (λ i. heard-at (c .leaves i) (set slots (d * n + s) (c .answers i))) ∙ ap (λ k. receive n x s k d) e ∙ ap (to-each n x s h) (sym (add-one d))
+pub to-more : {I : Type 0} (n : ℕ) (x : Option I) (s d at : ℕ) (h : Heard I) (b b′ : Plane I) (slots : List (Option I)) (r : Option I) → at ≡ d * n + s → heard-at b slots ≡ to-each n x s h d → Carried b b′ s d x r → heard-at b′ (set slots at r) ≡ to-each n x s h (d + 1)
+to-more n x s d at h b b′ slots r a e c =
+    (λ i. heard-at (c .leaves i) (set slots (a i) (c .answers i))) ∙ ap (λ k. receive n x s k d) e ∙ ap (to-each n x s h) (sym (add-one d))
 
 -- one sender more
 pub from-more : {I : Type 0} (n : ℕ) (sent : List (Option I)) (s : ℕ) (x : Option I) (h h′ h″ : Heard I) → x ≡ getD sent s None → h′ ≡ from-each n sent h s → h″ ≡ to-each n x s h′ n → h″ ≡ from-each n sent h (s + 1)

@@ -1,7 +1,7 @@
 // What exchanges over a backplane share: when they are refused, and the plain exchange.
 ghost use mathlib.Core.Path.{_≡_};
 ghost use mathlib.Core.Bool.{_||_};
-ghost use Prim.Native.Nat.{_*_, _<_, _≤_};
+ghost use Prim.Native.Nat.{_+_, _*_, _<_, _≤_};
 ghost use lib.ListN.{length};
 ghost use Rattle.exchanges.specs.Boards.{fits};
 ghost use Rattle.exchanges.specs.Asked.{due, short};
@@ -47,6 +47,17 @@ pub(crate) fn refusal_due(
     None
 }
 
+// Where n boards have what p heard from q.
+pub(crate) fn place(n: usize, p: usize, q: usize) -> usize
+    requires few { ⌜ n ≤ 7 ⌝ }
+    requires receiver { ⌜ p < n ⌝ }
+    requires sender { ⌜ q < n ⌝ }
+    ensures value { λ r. ⌜ r ≡ p * n + q ⌝ }
+    ensures within { λ r. ⌜ r < n * n ⌝ }
+{
+    p * n + q
+}
+
 // Board s sends its item to each of n boards.
 fn send_to_each<I: Copy, B: Backplane<I>>(
     b: &mut B,
@@ -61,7 +72,7 @@ fn send_to_each<I: Copy, B: Backplane<I>>(
     ensures { λ _. ⌜ heard-at (B·Backplane .plane (now (b .exit))) (now (heard .exit)) ≡ to-each n item s (heard-at (B·Backplane .plane (now (b .entry))) (now (heard .entry))) n ⌝ }
 {
     for d in 0..n {
-        heard[d * n + s] = b.carry(s, d, item);
+        heard[place(n, d, s)] = b.carry(s, d, item);
     }
 }
 
