@@ -12,12 +12,13 @@ use Rattle.std.proofs.shelf.Counted.{map-counting-more, length-map-counting}
 use Rattle.std.proofs.shelf.Bits.{div-below, mod-below}
 use Rattle.std.specs.declared.option.Option.{Option}
 use Rattle.std.specs.declared.option.Option.the-variants.{None}
-use Rattle.exchanges.specs.Trees.{IsPath, Trees, place, grid, reduced, tree-size}
+use Rattle.exchanges.specs.Trees.{IsPath, Trees, place, grid, reduced, tree-size, workspace}
 use Rattle.exchanges.specs.Slots.{slot, Room, Stands, reduced-down}
 use Rattle.exchanges.proofs.Counts.{all-counting, map-same}
 use Rattle.exchanges.proofs.Ranks.{place-single}
 use Rattle.exchanges.proofs.Slots.{slot-below, all-small}
-use Rattle.exchanges.proofs.Settle.{all-reduced}
+use Rattle.exchanges.proofs.Settle.{all-reduced, beyond-kept}
+use Rattle.exchanges.proofs.Spread.{workspace-is}
 
 some-boards : (n k : ℕ) → k < n * n → 0 < n
 some-boards zero k l = absurd (omega (arith, zero-mul 0))
@@ -43,3 +44,9 @@ grid-reduced {I} same n t size sized own ws ws₂ T st room e =
     let pos = some-boards n k small in
     let deep : t + 1 - 1 ≡ t = omega arith in
     ap (λ (x : List (Option I)). getD x (k / n * size + k % n) None) e ∙ ap (λ (i : ℕ). getD (reduced-down same n t size ws t) (k / n * size + i) None) (sym (place-single n (k % n))) ∙ all-reduced same n t size sized own ws T st room (k / n) (k % n ∷ []) (div-below k n n pos small) (mod-below k n pos, refl, tt) (omega arith) (omega arith) ∙ ap (λ (m : ℕ). reduced same n t T m (k / n) (k % n ∷ [])) deep))
+
+pub work-reduced : {I : Type 0} (same : I → I → Bool) (n t size : ℕ) (sized : size ≡ tree-size n t) (own ws ws₁ ws₂ : List (Option I)) (T : Trees I) → Stands n t size own ws₁ T → n * size ≤ length ws₁ → ws₂ ≡ reduced-down same n t size ws₁ t → drop (n * size) ws₁ ≡ drop (n * size) ws → ws₂ ≡ workspace same n t T ++ drop (n * size) ws
+work-reduced {I} same n t size sized own ws ws₁ ws₂ T st room e rest =
+    let down = reduced-down same n t size ws₁ t in
+    let (roomy, beyond) = beyond-kept same n t size sized own ws₁ T st room in
+    e ∙ workspace-is same n t size sized T down roomy (all-reduced same n t size sized own ws₁ T st room) ∙ ap (λ (l : List (Option I)). workspace same n t T ++ l) (beyond ∙ rest)

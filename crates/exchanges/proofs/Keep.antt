@@ -7,7 +7,7 @@ use Prim.Native.Nat.{ℕ, suc, zero, _+_, _*_, _/_, _%_, _<_, _≤_}
 use native.Mathlib.Omega.{arith}
 use lib.Dec.{leb, ltb}
 use lib.ListN.{length, getD}
-use Rattle.std.proofs.shelf.Tests.{cases-bool, cases-eq, and-parts, ltb-true}
+use Rattle.std.proofs.shelf.Tests.{cases-bool, cases-eq, and-parts, ltb-true, leb-true}
 use Rattle.std.proofs.shelf.Counted.{length-map-counting, getD-map-counting}
 use Rattle.std.proofs.shelf.Bits.{mul-add-lt, div-mul-add, mod-mul-add}
 use Rattle.std.specs.shelf.Lists.{countBy}
@@ -39,6 +39,9 @@ clear-at clear r (suc k) i e l =
 -- counts that fit
 pub enough-boards : (n t : ℕ) → fits n t ≡ true → 3 * t < n
 enough-boards n t e = ltb-true (3 * t) n (and-parts (leb n most-boards) (ltb (3 * t) n) (and-parts (ltb 0 n) _ e .1) .1)
+
+pub few-boards : (n t : ℕ) → fits n t ≡ true → n ≤ most-boards
+few-boards n t e = leb-true n most-boards (and-parts (leb n most-boards) (ltb (3 * t) n) (and-parts (ltb 0 n) _ e .1) .0)
 
 -- one firm exchange
 module _ {I : Type 0} (same : I → I → Bool) (tells : Tells same) (t : ℕ) (b : Plane I) (s : List (Option I)) (begins : Begins t (t + 1) b s) (bears : Bears t b) where

@@ -24,3 +24,5 @@ pub mod Whole
 pub mod Spread
 pub mod Runs
 pub mod Cuts
+pub mod Firms
+pub mod TreeLaws

@@ -130,5 +130,5 @@ module _ {I : Type 0} (same : I → I → Bool) (n t : ℕ) where
     pub all-reduced : (ws : List (Option I)) (T : Trees I) → Stands n t size own ws T → n * size ≤ length ws → (p : ℕ) (β : List ℕ) → p < n → IsPath n β → 1 ≤ length β → length β ≤ t + 1 → getD (reduced-down same n t size ws t) (slot n size p β) None ≡ reduced same n t T (t + 1 - length β) p β
     all-reduced ws T st room p β lp path one l = down-stands (drop (n * size) ws) ws T t (omega arith) (st, room, refl) .0 .holds p β lp path one l ∙ down-is T t (omega arith) p β lp path one l .1 (omega arith)
 
-    pub beyond-kept : (ws : List (Option I)) (T : Trees I) → Stands n t size own ws T → n * size ≤ length ws → drop (n * size) (reduced-down same n t size ws t) ≡ drop (n * size) ws
-    beyond-kept ws T st room = down-stands (drop (n * size) ws) ws T t (omega arith) (st, room, refl) .2
+    pub beyond-kept : (ws : List (Option I)) (T : Trees I) → Stands n t size own ws T → n * size ≤ length ws → (n * size ≤ length (reduced-down same n t size ws t)) × (drop (n * size) (reduced-down same n t size ws t) ≡ drop (n * size) ws)
+    beyond-kept ws T st room = let lies = down-stands (drop (n * size) ws) ws T t (omega arith) (st, room, refl) in (lies .1, lies .2)

@@ -8,5 +8,7 @@ pub mod Ran
 pub mod Trees
 pub mod Reduction
 pub mod Slots
+pub mod Left
+pub mod TreeLaws
 pub mod TwoFaced
 pub mod CutLines

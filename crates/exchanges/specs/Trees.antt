@@ -16,6 +16,7 @@ use Rattle.exchanges.specs.Plane.{Plane, turn, carry, after}
 use Rattle.exchanges.specs.Exchange.{Exchange, Keeps}
 use Rattle.exchanges.specs.Plain.{Heard}
 use Rattle.exchanges.specs.Over.{Way, over}
+use Rattle.exchanges.specs.declared.tree.Tree.{Tree}
 
 -- A path is a list of different boards, the last board first: `q ∷ α` is the path α with q added.
 
@@ -173,6 +174,10 @@ tree-way same t = record {
 -- the tree exchange over a backplane
 abbrev pub tree-meaning : {I : Type 0} → (I → I → Bool) → ℕ → Plane I → Exchange I
 tree-meaning same t b = over (tree-way same t) b
+
+-- the same of what the code holds, by what its backplane means
+abbrev pub tree-exchange : {I B : Type 0} → (I → I → Bool) → (B → Plane I) → Tree B → Exchange I
+tree-exchange same plane x = tree-meaning same (x .faults) (plane (x .plane))
 
 -- over every backplane that keeps its meaning, the tree exchange keeps an exchange's
 abbrev pub Trees-keep : Type 0 → Type 0

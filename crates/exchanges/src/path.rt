@@ -2,7 +2,7 @@
 ghost use mathlib.Core.Path.{_≡_};
 ghost use mathlib.Core.List.{_∷_};
 ghost use Prim.Native.Nat.{ℕ, _+_, _-_, _*_, _<_, _≤_};
-ghost use Rattle.exchanges.specs.Trees.{on, lower, rank, start, place, IsPath};
+ghost use Rattle.exchanges.specs.Trees.{on, lower, rank, start, place, tree-size, IsPath};
 ghost use Rattle.exchanges.specs.Slots.{trail};
 
 // Up to three different board numbers, the first one first. A tree has a slot for each path of one
@@ -15,7 +15,15 @@ pub(crate) struct Path {
 }
 
 // Where the levels of paths of one, two and three boards begin, for one to seven boards.
-const LEVELS: [[u32; 3]; 7] = [[0, 1, 1], [0, 2, 4], [0, 3, 9], [0, 4, 16], [0, 5, 25], [0, 6, 36], [0, 7, 49]];
+const LEVELS: [[u32; 3]; 7] = [
+    [0, 1, 1],
+    [0, 2, 4],
+    [0, 3, 9],
+    [0, 4, 16],
+    [0, 5, 25],
+    [0, 6, 36],
+    [0, 7, 49],
+];
 
 // Where the level of paths of k boards begins.
 fn level_start(n: usize, k: usize) -> usize
@@ -25,11 +33,27 @@ fn level_start(n: usize, k: usize) -> usize
     LEVELS[n - 1][k - 1] as usize
 }
 
+// The slots of one board's tree: where the level of its longest paths begins, and how many these are.
+pub(crate) fn tree_size(n: usize, t: usize) -> usize
+    requires few { ⌜ n ≤ 7 ⌝ }
+    requires low { ⌜ 3 * t < n ⌝ }
+    ensures { λ r. ⌜ r ≡ tree-size n t ⌝ }
+{
+    let mut count = 1;
+    for k in 0..t + 1 {
+        count *= n - k;
+    }
+    level_start(n, t + 1) + count
+}
+
 impl Path {
     pub(crate) fn empty() -> Path
         ensures { λ r. ⌜ r .len ≡ 0 ⌝ }
     {
-        Path { boards: [0; 3], len: 0 }
+        Path {
+            boards: [0; 3],
+            len: 0,
+        }
     }
 
     pub(crate) fn len(self) -> usize
@@ -46,7 +70,10 @@ impl Path {
     {
         let mut boards = self.boards;
         boards[self.len] = q;
-        Path { boards, len: self.len + 1 }
+        Path {
+            boards,
+            len: self.len + 1,
+        }
     }
 
     // Whether a board stands on the path.

@@ -11,7 +11,15 @@ use crate::backplane::Backplane;
 use crate::path::Path;
 
 // What board q's tree holds at the path; at the empty path, what q itself sends.
-fn read<I: Copy>(own: &[Option<I>], ws: &[Option<I>], n: usize, t: usize, size: usize, path: Path, q: usize) -> Option<I>
+fn read<I: Copy>(
+    own: &[Option<I>],
+    ws: &[Option<I>],
+    n: usize,
+    t: usize,
+    size: usize,
+    path: Path,
+    q: usize,
+) -> Option<I>
     requires room { ⌜ Room n t size (length (now own)) (length (now ws)) ⌝ }
     requires board { ⌜ q < n ⌝ }
     requires short { ⌜ path .len ≤ t + 1 ⌝ }
@@ -26,7 +34,16 @@ fn read<I: Copy>(own: &[Option<I>], ws: &[Option<I>], n: usize, t: usize, size: 
 }
 
 // Board q sends what its tree holds at the path to every board, which stores the answer at the path with q added.
-fn send<I: Copy, B: Backplane<I>>(b: &mut B, own: &[Option<I>], ws: &mut [Option<I>], n: usize, t: usize, size: usize, path: Path, q: usize)
+fn send<I: Copy, B: Backplane<I>>(
+    b: &mut B,
+    own: &[Option<I>],
+    ws: &mut [Option<I>],
+    n: usize,
+    t: usize,
+    size: usize,
+    path: Path,
+    q: usize,
+)
     requires room { ⌜ Room n t size (length (now own)) (length (now ws)) ⌝ }
     requires short { ⌜ path .len ≤ t ⌝ }
     requires path { ⌜ IsPath n (q ∷ trail (path .boards) (path .len)) ⌝ }
@@ -40,7 +57,15 @@ fn send<I: Copy, B: Backplane<I>>(b: &mut B, own: &[Option<I>], ws: &mut [Option
 }
 
 // Every board off the path sends what its tree holds there.
-fn relay<I: Copy, B: Backplane<I>>(b: &mut B, own: &[Option<I>], ws: &mut [Option<I>], n: usize, t: usize, size: usize, path: Path)
+fn relay<I: Copy, B: Backplane<I>>(
+    b: &mut B,
+    own: &[Option<I>],
+    ws: &mut [Option<I>],
+    n: usize,
+    t: usize,
+    size: usize,
+    path: Path,
+)
     requires room { ⌜ Room n t size (length (now own)) (length (now ws)) ⌝ }
     requires short { ⌜ path .len ≤ t ⌝ }
     requires path { ⌜ IsPath n (trail (path .boards) (path .len)) ⌝ }
@@ -54,7 +79,16 @@ fn relay<I: Copy, B: Backplane<I>>(b: &mut B, own: &[Option<I>], ws: &mut [Optio
 }
 
 // The same on all paths that have `more` boards more, in rising order.
-fn spread<I: Copy, B: Backplane<I>>(b: &mut B, own: &[Option<I>], ws: &mut [Option<I>], n: usize, t: usize, size: usize, path: Path, more: usize)
+fn spread<I: Copy, B: Backplane<I>>(
+    b: &mut B,
+    own: &[Option<I>],
+    ws: &mut [Option<I>],
+    n: usize,
+    t: usize,
+    size: usize,
+    path: Path,
+    more: usize,
+)
     requires room { ⌜ Room n t size (length (now own)) (length (now ws)) ⌝ }
     requires short { ⌜ path .len + more ≤ t ⌝ }
     requires path { ⌜ IsPath n (trail (path .boards) (path .len)) ⌝ }
@@ -72,7 +106,14 @@ fn spread<I: Copy, B: Backplane<I>>(b: &mut B, own: &[Option<I>], ws: &mut [Opti
 }
 
 // The t + 1 rounds of a firm exchange fill every board's tree.
-pub(crate) fn gather<I: Copy, B: Backplane<I>>(b: &mut B, own: &[Option<I>], ws: &mut [Option<I>], n: usize, t: usize, size: usize)
+pub(crate) fn gather<I: Copy, B: Backplane<I>>(
+    b: &mut B,
+    own: &[Option<I>],
+    ws: &mut [Option<I>],
+    n: usize,
+    t: usize,
+    size: usize,
+)
     requires room { ⌜ Room n t size (length (now own)) (length (now ws)) ⌝ }
     requires timely { ⌜ plane (now b) .round + (t + 1) ≤ last-round ⌝ }
     ensures plane { λ _. ⌜ plane (now (b .exit)) ≡ filled n (t + 1) (plane (now (b .entry))) (take n (now (own .entry))) .plane ⌝ }

@@ -73,7 +73,14 @@ fn reduce_on<I: Item>(ws: &mut [Option<I>], n: usize, t: usize, size: usize, pat
 }
 
 // All paths that have `more` boards more reduced, for every board.
-fn reduce_under<I: Item>(ws: &mut [Option<I>], n: usize, t: usize, size: usize, path: Path, more: usize)
+fn reduce_under<I: Item>(
+    ws: &mut [Option<I>],
+    n: usize,
+    t: usize,
+    size: usize,
+    path: Path,
+    more: usize,
+)
     requires room { ⌜ Room n t size n (length (now ws)) ⌝ }
     requires short { ⌜ (1 ≤ path .len + more) × (path .len + more ≤ t) ⌝ }
     requires path { ⌜ IsPath n (trail (path .boards) (path .len)) ⌝ }
