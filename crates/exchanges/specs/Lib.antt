@@ -10,5 +10,7 @@ pub mod Reduction
 pub mod Slots
 pub mod Left
 pub mod TreeLaws
+pub mod Worked
+pub mod Carries
 pub mod TwoFaced
 pub mod CutLines

@@ -13,6 +13,8 @@ ghost use Rattle.exchanges.specs.Ran.{Ran};
 ghost use Rattle.exchanges.specs.Trees.{tree-size, grid, filled, reduced, workspace, tree-run, tree-meaning, tree-exchange};
 ghost use Rattle.exchanges.specs.Slots.{Room};
 ghost use Rattle.exchanges.specs.TreeLaws.{Tree-laws};
+ghost use Rattle.exchanges.specs.Carries.{In-order};
+ghost use Rattle.exchanges.specs.Worked.{All-right, cases};
 ghost use Rattle.exchanges.specs.Left.{Left};
 use crate::backplane::Backplane;
 use crate::exchange::Exchange;
@@ -112,7 +114,9 @@ pub struct Tree<B> {
 impl<B> Tree<B> {
     // The tree exchange over a backplane, that bears so many bad boards.
     pub fn new(plane: B, faults: u8) -> Self
-        ensures { λ r. ⌜ (r .plane ≡ plane) × (r .faults ≡ faults) ⌝ }
+        ensures made { λ r. ⌜ (r .plane ≡ plane) × (r .faults ≡ faults) ⌝ }
+        ensures order { λ _. ⌜ In-order ⌝ }
+        ensures worked { λ _. ⌜ All-right cases ⌝ }
     {
         Tree { plane, faults }
     }
