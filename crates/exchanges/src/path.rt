@@ -14,6 +14,14 @@ pub(crate) struct Path {
     ghost short: { len ≤ 3 },
 }
 
+// How many boards there are, how many of them may be bad, and how many slots one board's tree has.
+#[derive(Clone, Copy)]
+pub(crate) struct Shape {
+    pub(crate) n: usize,
+    pub(crate) t: usize,
+    pub(crate) size: usize,
+}
+
 // Where the levels of paths of one, two and three boards begin, for one to seven boards.
 const LEVELS: [[u32; 3]; 7] = [
     [0, 1, 1],

@@ -9,27 +9,26 @@ ghost use Rattle.exchanges.specs.Trees.{IsPath, filled};
 ghost use Rattle.exchanges.specs.Slots.{trail, held, carried, hops-from, hops-on, hops-under, Room, Worked, Stands};
 use crate::backplane::Backplane;
 use crate::path::Path;
+use crate::path::Shape;
 
 // What board q's tree holds at the path; at the empty path, what q itself sends.
 fn read<I: Copy>(
     own: &[Option<I>],
     ws: &[Option<I>],
-    n: usize,
-    t: usize,
-    size: usize,
+    shape: Shape,
     path: Path,
     q: usize,
 ) -> Option<I>
-    requires room { ⌜ Room n t size (length (now own)) (length (now ws)) ⌝ }
-    requires board { ⌜ q < n ⌝ }
-    requires short { ⌜ path .len ≤ t + 1 ⌝ }
-    requires path { ⌜ IsPath n (trail (path .boards) (path .len)) ⌝ }
-    ensures { λ r. ⌜ r ≡ held n size (now (own .entry)) (now (ws .entry)) q (trail (path .boards) (path .len)) ⌝ }
+    requires room { ⌜ Room (shape .n) (shape .t) (shape .size) (length (now own)) (length (now ws)) ⌝ }
+    requires board { ⌜ q < shape .n ⌝ }
+    requires short { ⌜ path .len ≤ shape .t + 1 ⌝ }
+    requires path { ⌜ IsPath (shape .n) (trail (path .boards) (path .len)) ⌝ }
+    ensures { λ r. ⌜ r ≡ held (shape .n) (shape .size) (now (own .entry)) (now (ws .entry)) q (trail (path .boards) (path .len)) ⌝ }
 {
     if path.len() == 0 {
         own[q]
     } else {
-        ws[q * size + path.place(n)]
+        ws[q * shape.size + path.place(shape.n)]
     }
 }
 
@@ -38,20 +37,19 @@ fn send<I: Copy, B: Backplane<I>>(
     b: &mut B,
     own: &[Option<I>],
     ws: &mut [Option<I>],
-    n: usize,
-    t: usize,
-    size: usize,
+    shape: Shape,
     path: Path,
     q: usize,
 )
-    requires room { ⌜ Room n t size (length (now own)) (length (now ws)) ⌝ }
-    requires short { ⌜ path .len ≤ t ⌝ }
-    requires path { ⌜ IsPath n (q ∷ trail (path .boards) (path .len)) ⌝ }
-    ensures { λ _. ⌜ Worked (plane (now (b .exit))) (now (ws .exit)) (folded (carried n size (now (own .entry))) (record { plane = plane (now (b .entry)); slots = now (ws .entry) }) (hops-from n (trail (path .boards) (path .len)) q)) ⌝ }
+    requires room { ⌜ Room (shape .n) (shape .t) (shape .size) (length (now own)) (length (now ws)) ⌝ }
+    requires short { ⌜ path .len ≤ shape .t ⌝ }
+    requires path { ⌜ IsPath (shape .n) (q ∷ trail (path .boards) (path .len)) ⌝ }
+    ensures { λ _. ⌜ Worked (plane (now (b .exit))) (now (ws .exit)) (folded (carried (shape .n) (shape .size) (now (own .entry))) (record { plane = plane (now (b .entry)); slots = now (ws .entry) }) (hops-from (shape .n) (trail (path .boards) (path .len)) q)) ⌝ }
 {
-    let place = path.add(q as u8).place(n);
-    for p in 0..n {
-        let item = read(own, ws, n, t, size, path, q);
+    let size = shape.size;
+    let place = path.add(q as u8).place(shape.n);
+    for p in 0..shape.n {
+        let item = read(own, ws, shape, path, q);
         ws[p * size + place] = b.carry(q, p, item);
     }
 }
@@ -61,19 +59,17 @@ fn relay<I: Copy, B: Backplane<I>>(
     b: &mut B,
     own: &[Option<I>],
     ws: &mut [Option<I>],
-    n: usize,
-    t: usize,
-    size: usize,
+    shape: Shape,
     path: Path,
 )
-    requires room { ⌜ Room n t size (length (now own)) (length (now ws)) ⌝ }
-    requires short { ⌜ path .len ≤ t ⌝ }
-    requires path { ⌜ IsPath n (trail (path .boards) (path .len)) ⌝ }
-    ensures { λ _. ⌜ Worked (plane (now (b .exit))) (now (ws .exit)) (folded (carried n size (now (own .entry))) (record { plane = plane (now (b .entry)); slots = now (ws .entry) }) (hops-on n (trail (path .boards) (path .len)))) ⌝ }
+    requires room { ⌜ Room (shape .n) (shape .t) (shape .size) (length (now own)) (length (now ws)) ⌝ }
+    requires short { ⌜ path .len ≤ shape .t ⌝ }
+    requires path { ⌜ IsPath (shape .n) (trail (path .boards) (path .len)) ⌝ }
+    ensures { λ _. ⌜ Worked (plane (now (b .exit))) (now (ws .exit)) (folded (carried (shape .n) (shape .size) (now (own .entry))) (record { plane = plane (now (b .entry)); slots = now (ws .entry) }) (hops-on (shape .n) (trail (path .boards) (path .len)))) ⌝ }
 {
-    for q in 0..n {
+    for q in 0..shape.n {
         if !path.has(q) {
-            send(b, own, ws, n, t, size, path, q);
+            send(b, own, ws, shape, path, q);
         }
     }
 }
@@ -83,24 +79,22 @@ fn spread<I: Copy, B: Backplane<I>>(
     b: &mut B,
     own: &[Option<I>],
     ws: &mut [Option<I>],
-    n: usize,
-    t: usize,
-    size: usize,
+    shape: Shape,
     path: Path,
     more: usize,
 )
-    requires room { ⌜ Room n t size (length (now own)) (length (now ws)) ⌝ }
-    requires short { ⌜ path .len + more ≤ t ⌝ }
-    requires path { ⌜ IsPath n (trail (path .boards) (path .len)) ⌝ }
-    ensures { λ _. ⌜ Worked (plane (now (b .exit))) (now (ws .exit)) (folded (carried n size (now (own .entry))) (record { plane = plane (now (b .entry)); slots = now (ws .entry) }) (hops-under n (trail (path .boards) (path .len)) more)) ⌝ }
+    requires room { ⌜ Room (shape .n) (shape .t) (shape .size) (length (now own)) (length (now ws)) ⌝ }
+    requires short { ⌜ path .len + more ≤ shape .t ⌝ }
+    requires path { ⌜ IsPath (shape .n) (trail (path .boards) (path .len)) ⌝ }
+    ensures { λ _. ⌜ Worked (plane (now (b .exit))) (now (ws .exit)) (folded (carried (shape .n) (shape .size) (now (own .entry))) (record { plane = plane (now (b .entry)); slots = now (ws .entry) }) (hops-under (shape .n) (trail (path .boards) (path .len)) more)) ⌝ }
 {
     if more == 0 {
-        relay(b, own, ws, n, t, size, path);
+        relay(b, own, ws, shape, path);
         return;
     }
-    for q in 0..n {
+    for q in 0..shape.n {
         if !path.has(q) {
-            spread(b, own, ws, n, t, size, path.add(q as u8), more - 1);
+            spread(b, own, ws, shape, path.add(q as u8), more - 1);
         }
     }
 }
@@ -110,19 +104,17 @@ pub(crate) fn gather<I: Copy, B: Backplane<I>>(
     b: &mut B,
     own: &[Option<I>],
     ws: &mut [Option<I>],
-    n: usize,
-    t: usize,
-    size: usize,
+    shape: Shape,
 )
-    requires room { ⌜ Room n t size (length (now own)) (length (now ws)) ⌝ }
-    requires timely { ⌜ plane (now b) .round + (t + 1) ≤ last-round ⌝ }
-    ensures plane { λ _. ⌜ plane (now (b .exit)) ≡ filled n (t + 1) (plane (now (b .entry))) (take n (now (own .entry))) .plane ⌝ }
-    ensures slots { λ _. ⌜ Stands n t size (now (own .entry)) (now (ws .exit)) (filled n (t + 1) (plane (now (b .entry))) (take n (now (own .entry))) .trees) ⌝ }
-    ensures kept { λ _. ⌜ drop (n * size) (now (ws .exit)) ≡ drop (n * size) (now (ws .entry)) ⌝ }
+    requires room { ⌜ Room (shape .n) (shape .t) (shape .size) (length (now own)) (length (now ws)) ⌝ }
+    requires timely { ⌜ plane (now b) .round + (shape .t + 1) ≤ last-round ⌝ }
+    ensures plane { λ _. ⌜ plane (now (b .exit)) ≡ filled (shape .n) (shape .t + 1) (plane (now (b .entry))) (take (shape .n) (now (own .entry))) .plane ⌝ }
+    ensures slots { λ _. ⌜ Stands (shape .n) (shape .t) (shape .size) (now (own .entry)) (now (ws .exit)) (filled (shape .n) (shape .t + 1) (plane (now (b .entry))) (take (shape .n) (now (own .entry))) .trees) ⌝ }
+    ensures kept { λ _. ⌜ drop (shape .n * shape .size) (now (ws .exit)) ≡ drop (shape .n * shape .size) (now (ws .entry)) ⌝ }
 {
-    for r in 0..t + 1 {
+    for r in 0..shape.t + 1 {
         // there is a next round, so this is never refused
         let _ = b.turn();
-        spread(b, own, ws, n, t, size, Path::empty(), r);
+        spread(b, own, ws, shape, Path::empty(), r);
     }
 }

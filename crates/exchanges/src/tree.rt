@@ -18,6 +18,7 @@ ghost use Rattle.exchanges.specs.Worked.{All-right, cases};
 ghost use Rattle.exchanges.specs.Left.{Left};
 use crate::backplane::Backplane;
 use crate::exchange::Exchange;
+use crate::path::Shape;
 use crate::path::tree_size;
 use crate::plain::fits_counts;
 use crate::plain::plain_over;
@@ -29,13 +30,13 @@ use labels::item::Item;
 use labels::refusal::Refusal;
 
 // What each board heard from each other: its tree's slot of that board's path.
-fn hear<I: Copy>(heard: &mut [Option<I>], ws: &[Option<I>], n: usize, t: usize, size: usize)
-    requires room { ⌜ Room n t size n (length (now ws)) ⌝ }
-    requires heard { ⌜ n * n ≤ length (now heard) ⌝ }
-    ensures { λ _. ⌜ now (heard .exit) ≡ grid n (λ p q. getD (now (ws .entry)) (p * size + q) None) ++ drop (n * n) (now (heard .entry)) ⌝ }
+fn hear<I: Copy>(heard: &mut [Option<I>], ws: &[Option<I>], shape: Shape)
+    requires room { ⌜ Room (shape .n) (shape .t) (shape .size) (shape .n) (length (now ws)) ⌝ }
+    requires heard { ⌜ shape .n * shape .n ≤ length (now heard) ⌝ }
+    ensures { λ _. ⌜ now (heard .exit) ≡ grid (shape .n) (λ p q. getD (now (ws .entry)) (p * shape .size + q) None) ++ drop (shape .n * shape .n) (now (heard .entry)) ⌝ }
 {
-    for k in 0..n * n {
-        heard[k] = ws[k / n * size + k % n];
+    for k in 0..shape.n * shape.n {
+        heard[k] = ws[k / shape.n * shape.size + k % shape.n];
     }
 }
 
@@ -45,20 +46,18 @@ fn run_trees<I: Item, B: Backplane<I>>(
     own: &[Option<I>],
     heard: &mut [Option<I>],
     ws: &mut [Option<I>],
-    n: usize,
-    t: usize,
-    size: usize,
+    shape: Shape,
 )
-    requires room { ⌜ Room n t size (length (now own)) (length (now ws)) ⌝ }
-    requires heard { ⌜ n * n ≤ length (now heard) ⌝ }
-    requires timely { ⌜ plane (now b) .round + (t + 1) ≤ last-round ⌝ }
-    ensures plane { λ _. ⌜ plane (now (b .exit)) ≡ filled n (t + 1) (plane (now (b .entry))) (take n (now (own .entry))) .plane ⌝ }
-    ensures heard { λ _. ⌜ now (heard .exit) ≡ grid n (λ p q. reduced same n t (filled n (t + 1) (plane (now (b .entry))) (take n (now (own .entry))) .trees) t p (q ∷ [])) ++ drop (n * n) (now (heard .entry)) ⌝ }
-    ensures work { λ _. ⌜ now (ws .exit) ≡ workspace same n t (filled n (t + 1) (plane (now (b .entry))) (take n (now (own .entry))) .trees) ++ drop (n * size) (now (ws .entry)) ⌝ }
+    requires room { ⌜ Room (shape .n) (shape .t) (shape .size) (length (now own)) (length (now ws)) ⌝ }
+    requires heard { ⌜ shape .n * shape .n ≤ length (now heard) ⌝ }
+    requires timely { ⌜ plane (now b) .round + (shape .t + 1) ≤ last-round ⌝ }
+    ensures plane { λ _. ⌜ plane (now (b .exit)) ≡ filled (shape .n) (shape .t + 1) (plane (now (b .entry))) (take (shape .n) (now (own .entry))) .plane ⌝ }
+    ensures heard { λ _. ⌜ now (heard .exit) ≡ grid (shape .n) (λ p q. reduced same (shape .n) (shape .t) (filled (shape .n) (shape .t + 1) (plane (now (b .entry))) (take (shape .n) (now (own .entry))) .trees) (shape .t) p (q ∷ [])) ++ drop (shape .n * shape .n) (now (heard .entry)) ⌝ }
+    ensures work { λ _. ⌜ now (ws .exit) ≡ workspace same (shape .n) (shape .t) (filled (shape .n) (shape .t + 1) (plane (now (b .entry))) (take (shape .n) (now (own .entry))) .trees) ++ drop (shape .n * shape .size) (now (ws .entry)) ⌝ }
 {
-    gather(b, own, ws, n, t, size);
-    reduce_all(ws, n, t, size);
-    hear(heard, ws, n, t, size);
+    gather(b, own, ws, shape);
+    reduce_all(ws, shape);
+    hear(heard, ws, shape);
 }
 
 // How many slots the trees of all boards take; none where the counts do not fit.
@@ -101,7 +100,8 @@ pub(crate) fn firm_over<I: Item, B: Backplane<I>>(
         return Err(refusal);
     }
     let (n, t) = (usize::from(n), usize::from(faults));
-    run_trees(b, sent, heard, work, n, t, tree_size(n, t));
+    let size = tree_size(n, t);
+    run_trees(b, sent, heard, work, Shape { n, t, size });
     Ok(())
 }
 

@@ -7,6 +7,7 @@ ghost use Rattle.std.specs.shelf.Lists.{countBy};
 ghost use Rattle.exchanges.specs.Trees.{holds, picked, IsPath};
 ghost use Rattle.exchanges.specs.Slots.{trail, Room, settle, spots-on, spots-under, reduced-down};
 use crate::path::Path;
+use crate::path::Shape;
 use labels::item::Item;
 
 // How many slots hold the item.
@@ -47,62 +48,55 @@ fn settled_in<I: Item>(slots: &[Option<I>], first: usize, len: usize, need: usiz
 }
 
 // Board p's slot of a path gets what its children settle on.
-fn reduce_at<I: Item>(ws: &mut [Option<I>], n: usize, t: usize, size: usize, p: usize, path: Path)
-    requires room { ⌜ Room n t size n (length (now ws)) ⌝ }
-    requires board { ⌜ p < n ⌝ }
-    requires short { ⌜ (1 ≤ path .len) × (path .len ≤ t) ⌝ }
-    requires path { ⌜ IsPath n (trail (path .boards) (path .len)) ⌝ }
-    ensures { λ _. ⌜ now (ws .exit) ≡ settle same n t size (now (ws .entry)) (record { board = p; path = trail (path .boards) (path .len) }) ⌝ }
+fn reduce_at<I: Item>(ws: &mut [Option<I>], shape: Shape, p: usize, path: Path)
+    requires room { ⌜ Room (shape .n) (shape .t) (shape .size) (shape .n) (length (now ws)) ⌝ }
+    requires board { ⌜ p < shape .n ⌝ }
+    requires short { ⌜ (1 ≤ path .len) × (path .len ≤ shape .t) ⌝ }
+    requires path { ⌜ IsPath (shape .n) (trail (path .boards) (path .len)) ⌝ }
+    ensures { λ _. ⌜ now (ws .exit) ≡ settle same (shape .n) (shape .t) (shape .size) (now (ws .entry)) (record { board = p; path = trail (path .boards) (path .len) }) ⌝ }
 {
     let k = path.len();
-    let first = p * size + path.children(n);
-    let item = settled_in(ws, first, n - k, n - k - t);
-    ws[p * size + path.place(n)] = item;
+    let first = p * shape.size + path.children(shape.n);
+    let item = settled_in(ws, first, shape.n - k, shape.n - k - shape.t);
+    ws[p * shape.size + path.place(shape.n)] = item;
 }
 
 // A path reduced for every board.
-fn reduce_on<I: Item>(ws: &mut [Option<I>], n: usize, t: usize, size: usize, path: Path)
-    requires room { ⌜ Room n t size n (length (now ws)) ⌝ }
-    requires short { ⌜ (1 ≤ path .len) × (path .len ≤ t) ⌝ }
-    requires path { ⌜ IsPath n (trail (path .boards) (path .len)) ⌝ }
-    ensures { λ _. ⌜ now (ws .exit) ≡ folded (settle same n t size) (now (ws .entry)) (spots-on n (trail (path .boards) (path .len))) ⌝ }
+fn reduce_on<I: Item>(ws: &mut [Option<I>], shape: Shape, path: Path)
+    requires room { ⌜ Room (shape .n) (shape .t) (shape .size) (shape .n) (length (now ws)) ⌝ }
+    requires short { ⌜ (1 ≤ path .len) × (path .len ≤ shape .t) ⌝ }
+    requires path { ⌜ IsPath (shape .n) (trail (path .boards) (path .len)) ⌝ }
+    ensures { λ _. ⌜ now (ws .exit) ≡ folded (settle same (shape .n) (shape .t) (shape .size)) (now (ws .entry)) (spots-on (shape .n) (trail (path .boards) (path .len))) ⌝ }
 {
-    for p in 0..n {
-        reduce_at(ws, n, t, size, p, path);
+    for p in 0..shape.n {
+        reduce_at(ws, shape, p, path);
     }
 }
 
 // All paths that have `more` boards more reduced, for every board.
-fn reduce_under<I: Item>(
-    ws: &mut [Option<I>],
-    n: usize,
-    t: usize,
-    size: usize,
-    path: Path,
-    more: usize,
-)
-    requires room { ⌜ Room n t size n (length (now ws)) ⌝ }
-    requires short { ⌜ (1 ≤ path .len + more) × (path .len + more ≤ t) ⌝ }
-    requires path { ⌜ IsPath n (trail (path .boards) (path .len)) ⌝ }
-    ensures { λ _. ⌜ now (ws .exit) ≡ folded (settle same n t size) (now (ws .entry)) (spots-under n (trail (path .boards) (path .len)) more) ⌝ }
+fn reduce_under<I: Item>(ws: &mut [Option<I>], shape: Shape, path: Path, more: usize)
+    requires room { ⌜ Room (shape .n) (shape .t) (shape .size) (shape .n) (length (now ws)) ⌝ }
+    requires short { ⌜ (1 ≤ path .len + more) × (path .len + more ≤ shape .t) ⌝ }
+    requires path { ⌜ IsPath (shape .n) (trail (path .boards) (path .len)) ⌝ }
+    ensures { λ _. ⌜ now (ws .exit) ≡ folded (settle same (shape .n) (shape .t) (shape .size)) (now (ws .entry)) (spots-under (shape .n) (trail (path .boards) (path .len)) more) ⌝ }
 {
     if more == 0 {
-        reduce_on(ws, n, t, size, path);
+        reduce_on(ws, shape, path);
         return;
     }
-    for q in 0..n {
+    for q in 0..shape.n {
         if !path.has(q) {
-            reduce_under(ws, n, t, size, path.add(q as u8), more - 1);
+            reduce_under(ws, shape, path.add(q as u8), more - 1);
         }
     }
 }
 
 // The paths of length t down to 1 reduced, for every board.
-pub(crate) fn reduce_all<I: Item>(ws: &mut [Option<I>], n: usize, t: usize, size: usize)
-    requires room { ⌜ Room n t size n (length (now ws)) ⌝ }
-    ensures { λ _. ⌜ now (ws .exit) ≡ reduced-down same n t size (now (ws .entry)) t ⌝ }
+pub(crate) fn reduce_all<I: Item>(ws: &mut [Option<I>], shape: Shape)
+    requires room { ⌜ Room (shape .n) (shape .t) (shape .size) (shape .n) (length (now ws)) ⌝ }
+    ensures { λ _. ⌜ now (ws .exit) ≡ reduced-down same (shape .n) (shape .t) (shape .size) (now (ws .entry)) (shape .t) ⌝ }
 {
-    for j in 0..t {
-        reduce_under(ws, n, t, size, Path::empty(), t - j);
+    for j in 0..shape.t {
+        reduce_under(ws, shape, Path::empty(), shape.t - j);
     }
 }

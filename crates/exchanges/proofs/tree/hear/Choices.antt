@@ -7,4 +7,4 @@ use Rattle.std.specs.declared.option.Option.the-variants.{None}
 use Rattle.exchanges.proofs.tree.hear.Given as given
 
 abbrev pub Inv-loop-k : given.InvT-loop-k
-Inv-loop-k g l = l .heard ≡ map (λ k. getD (l .ws) (k / l .n * l .size + k % l .n) None) (counting 0 (l .k)) ++ drop (l .k) (l .entry .heard)
+Inv-loop-k g l = l .heard ≡ map (λ k. getD (l .ws) (k / l .shape .n * l .shape .size + k % l .shape .n) None) (counting 0 (l .k)) ++ drop (l .k) (l .entry .heard)

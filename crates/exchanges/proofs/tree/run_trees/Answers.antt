@@ -10,9 +10,9 @@ use Rattle.exchanges.proofs.tree.run_trees.Needs as need
 
 pub returns : need.returns
 returns g c =
-    let n = c .args .n in
-    let t = c .args .t in
-    let size = c .args .size in
+    let n = c .args .shape .n in
+    let t = c .args .shape .t in
+    let size = c .args .shape .size in
     let T = filled n (t + 1) (g .B·Backplane .plane (c .args .b .now)) (take n (c .args .own .now)) .trees in
     let roomy : n * size ≤ length (c .gather .last .ws) = omega (arith, c .gather .kept .ws, c .pre .room .holds) in
     record {

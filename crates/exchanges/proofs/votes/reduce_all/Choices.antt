@@ -3,4 +3,4 @@ use Rattle.exchanges.specs.Slots.{reduced-down}
 use Rattle.exchanges.proofs.votes.reduce_all.Given as given
 
 abbrev pub Inv-loop-j : given.InvT-loop-j
-Inv-loop-j g l = l .ws ≡ reduced-down (g .I·Item .same) (l .n) (l .t) (l .size) (l .entry .ws) (l .j)
+Inv-loop-j g l = l .ws ≡ reduced-down (g .I·Item .same) (l .shape .n) (l .shape .t) (l .shape .size) (l .entry .ws) (l .j)
