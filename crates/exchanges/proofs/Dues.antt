@@ -28,12 +28,13 @@ undue n t r k sh e = go (fits n t) sh (ltb last-round (r + k)) refl refl refl e
     go true false false a b c h = record { fit = a; room = b; timely = ltb-false _ _ c }
     go false s l a b c h = absurd (let z : _≡_ {A = ℕ} 0 1 = cc in omega arith)
 
+-- there is a place for each pair of boards
 pub long-heard : {X : Type 0} (n : ℕ) (s h : List X) → short n s h ≡ false → n * n ≤ length h
 long-heard n s h e =
     let parts = or-parts (ltb (length s) n) (ltb (length h) (n * n)) e in
     ltb-false _ _ (parts .1)
 
--- the same by what calls answered: n, z and q are the boards, whether memory is short, and the round
+-- no refusal is due, by what calls answered: n boards, z for short memory, round q
 pub none-due : (n m t q r k : ℕ) (sh : ℕ → Bool) (z : Bool) → n ≡ m → z ≡ sh n → q ≡ r → None ≡ due n t z q k → due m t (sh m) r k ≡ None
 none-due n m t q r k sh z en ez er e =
     sym (e ∙ (λ i. due (en i) t ((ez ∙ ap sh en) i) (er i) k))

@@ -1,20 +1,22 @@
 // What exchanges over a backplane share: when they are refused, and the plain exchange.
 ghost use mathlib.Core.Path.{_≡_};
-ghost use mathlib.Core.Bool.{_||_};
 ghost use Prim.Native.Nat.{_+_, _*_, _<_, _≤_};
 ghost use lib.ListN.{length};
-ghost use Rattle.exchanges.specs.Boards.{fits};
+ghost use Rattle.exchanges.specs.Boards.{fits, most-boards};
 ghost use Rattle.exchanges.specs.Asked.{due, short};
 ghost use Rattle.exchanges.specs.Plain.{plain-run, to-each, from-each};
 ghost use Rattle.exchanges.specs.Ran.{row-of, heard-at, Ran};
 use crate::backplane::Backplane;
 use labels::refusal::Refusal;
 
+// the most boards that there may be
+pub(crate) const MOST_BOARDS: u8 = 7;
+
 // Whether so many boards serve where so many of them may be bad.
 pub(crate) fn fits_counts(boards: u8, faults: u8) -> bool
     ensures { λ r. ⌜ r ≡ fits boards faults ⌝ }
 {
-    0 < boards && boards <= 7 && 3 * u16::from(faults) < u16::from(boards)
+    0 < boards && boards <= MOST_BOARDS && 3 * u16::from(faults) < u16::from(boards)
 }
 
 // Whether what is sent or heard has too few places.
@@ -49,7 +51,7 @@ pub(crate) fn refusal_due(
 
 // Where n boards have what p heard from q.
 pub(crate) fn place(n: usize, p: usize, q: usize) -> usize
-    requires few { ⌜ n ≤ 7 ⌝ }
+    requires few { ⌜ n ≤ most-boards ⌝ }
     requires receiver { ⌜ p < n ⌝ }
     requires sender { ⌜ q < n ⌝ }
     ensures value { λ r. ⌜ r ≡ p * n + q ⌝ }
@@ -66,7 +68,7 @@ fn send_to_each<I: Copy, B: Backplane<I>>(
     item: Option<I>,
     heard: &mut [Option<I>],
 )
-    requires few { ⌜ n ≤ 7 ⌝ }
+    requires few { ⌜ n ≤ most-boards ⌝ }
     requires known { ⌜ s < n ⌝ }
     requires room { ⌜ n * n ≤ length (now heard) ⌝ }
     ensures { λ _. ⌜ heard-at (B·Backplane .plane (now (b .exit))) (now (heard .exit)) ≡ to-each n item s (heard-at (B·Backplane .plane (now (b .entry))) (now (heard .entry))) n ⌝ }
@@ -83,7 +85,7 @@ fn send_all<I: Copy, B: Backplane<I>>(
     sent: &[Option<I>],
     heard: &mut [Option<I>],
 )
-    requires few { ⌜ n ≤ 7 ⌝ }
+    requires few { ⌜ n ≤ most-boards ⌝ }
     requires given { ⌜ n ≤ length (now sent) ⌝ }
     requires room { ⌜ n * n ≤ length (now heard) ⌝ }
     ensures { λ _. ⌜ heard-at (B·Backplane .plane (now (b .exit))) (now (heard .exit)) ≡ from-each n (now (sent .entry)) (heard-at (B·Backplane .plane (now (b .entry))) (now (heard .entry))) n ⌝ }
