@@ -2,6 +2,7 @@
 ghost use mathlib.Core.Path.{_≡_};
 ghost use mathlib.Core.List.{_∷_};
 ghost use Prim.Native.Nat.{ℕ, _+_, _-_, _*_, _<_, _≤_};
+ghost use Rattle.exchanges.specs.Boards.{most-boards};
 ghost use Rattle.exchanges.specs.Trees.{on, lower, rank, start, place, tree-size, IsPath};
 ghost use Rattle.exchanges.specs.Slots.{trail};
 
@@ -35,7 +36,7 @@ const LEVELS: [[u32; 3]; 7] = [
 
 // Where the level of paths of k boards begins.
 fn level_start(n: usize, k: usize) -> usize
-    requires { ⌜ 1 ≤ n ⌝ ∗ ⌜ n ≤ 7 ⌝ ∗ ⌜ 1 ≤ k ⌝ ∗ ⌜ k ≤ 3 ⌝ }
+    requires { ⌜ 1 ≤ n ⌝ ∗ ⌜ n ≤ most-boards ⌝ ∗ ⌜ 1 ≤ k ⌝ ∗ ⌜ k ≤ 3 ⌝ }
     ensures { λ r. ⌜ r ≡ start n k ⌝ }
 {
     LEVELS[n - 1][k - 1] as usize
@@ -43,7 +44,7 @@ fn level_start(n: usize, k: usize) -> usize
 
 // The slots of one board's tree: where the level of its longest paths begins, and how many these are.
 pub(crate) fn tree_size(n: usize, t: usize) -> usize
-    requires few { ⌜ n ≤ 7 ⌝ }
+    requires few { ⌜ n ≤ most-boards ⌝ }
     requires low { ⌜ 3 * t < n ⌝ }
     ensures { λ r. ⌜ r ≡ tree-size n t ⌝ }
 {
@@ -111,7 +112,7 @@ impl Path {
 
     // The place of the first k boards, worked out from the place of those but the last.
     fn place_of(self, n: usize, k: usize) -> usize
-        requires few { ⌜ n ≤ 7 ⌝ }
+        requires few { ⌜ n ≤ most-boards ⌝ }
         requires some { ⌜ 1 ≤ k ⌝ }
         requires short { ⌜ k ≤ 3 ⌝ }
         requires path { ⌜ IsPath n (trail (self .boards) k) ⌝ }
@@ -127,7 +128,7 @@ impl Path {
 
     // The place of the path in a board's tree.
     pub(crate) fn place(self, n: usize) -> usize
-        requires few { ⌜ n ≤ 7 ⌝ }
+        requires few { ⌜ n ≤ most-boards ⌝ }
         requires some { ⌜ 1 ≤ self .len ⌝ }
         requires path { ⌜ IsPath n (trail (self .boards) (self .len)) ⌝ }
         ensures { λ r. ⌜ r ≡ place n (trail (self .boards) (self .len)) ⌝ }
@@ -137,7 +138,7 @@ impl Path {
 
     // Where the places of the path's children begin.
     pub(crate) fn children(self, n: usize) -> usize
-        requires few { ⌜ n ≤ 7 ⌝ }
+        requires few { ⌜ n ≤ most-boards ⌝ }
         requires some { ⌜ 1 ≤ self .len ⌝ }
         requires short { ⌜ self .len < 3 ⌝ }
         requires path { ⌜ IsPath n (trail (self .boards) (self .len)) ⌝ }

@@ -10,17 +10,23 @@ use crate::path::Path;
 use crate::path::Shape;
 use labels::item::Item;
 
+// Whether a slot holds the item.
+fn holds_item<I: Item>(slot: Option<I>, x: I) -> bool
+    ensures { λ r. ⌜ r ≡ holds same x slot ⌝ }
+{
+    match slot {
+        Some(y) => x.is_same(y),
+        None => false,
+    }
+}
+
 // How many slots hold the item.
 fn holding<I: Item>(slots: &[Option<I>], x: I) -> usize
     ensures { λ r. ⌜ r ≡ countBy (holds same x) (now (slots .entry)) ⌝ }
 {
     let mut count = 0;
-    for s in slots {
-        if let Some(y) = *s {
-            if x.is_same(y) {
-                count += 1;
-            }
-        }
+    for slot in slots {
+        count += usize::from(holds_item(*slot, x));
     }
     count
 }
@@ -29,8 +35,8 @@ fn holding<I: Item>(slots: &[Option<I>], x: I) -> usize
 fn settled<I: Item>(slots: &[Option<I>], need: usize) -> Option<I>
     ensures { λ r. ⌜ r ≡ picked same need (now (slots .entry)) (now (slots .entry)) ⌝ }
 {
-    for s in slots {
-        if let Some(x) = *s {
+    for slot in slots {
+        if let Some(x) = *slot {
             if need <= holding(slots, x) {
                 return Some(x);
             }

@@ -3,5 +3,5 @@ use lib.ListN.{drop}
 use Rattle.exchanges.specs.Trees.{picked}
 use Rattle.exchanges.proofs.votes.settled.Given as given
 
-abbrev pub Inv-loop-s : given.InvT-loop-s
-Inv-loop-s g l = picked (g .I·Item .same) (l .need) (l .slots) (drop (l .s-index) (l .slots)) ≡ picked (g .I·Item .same) (l .need) (l .slots) (l .slots)
+abbrev pub Inv-loop-slot : given.InvT-loop-slot
+Inv-loop-slot g l = picked (g .I·Item .same) (l .need) (l .slots) (drop (l .slot-index) (l .slots)) ≡ picked (g .I·Item .same) (l .need) (l .slots) (l .slots)
