@@ -5,5 +5,12 @@ pub mod Asked
 pub mod Plain
 pub mod Over
 pub mod Ran
+pub mod Trees
+pub mod Reduction
+pub mod Slots
+pub mod Left
+pub mod TreeLaws
+pub mod Worked
+pub mod Carries
 pub mod TwoFaced
 pub mod CutLines
