@@ -1,19 +1,19 @@
 -- The theorem of the tree exchange, over any family of trees in which each slot of a sound sender's path holds what that sender's own tree holds, or silence.
-use mathlib.Core.Path.{_≡_, refl, sym, ap, subst, _∙_}
-use mathlib.Core.Bool.{Bool, true, false, cond, not}
-use mathlib.Core.List.{List, [], _∷_, map}
+use mathlib.Core.Path.{_≡_, sym, ap, _∙_}
+use mathlib.Core.Bool.{Bool, true, false, not}
+use mathlib.Core.List.{List, _∷_, map}
 use mathlib.Core.Logic.{_⊎_, inl, inr}
 use Prim.Native.Nat.{ℕ, suc, zero, _+_, _-_, _*_, _<_, _≤_}
 use native.Mathlib.Omega.{arith}
 use lib.ListN.{length}
 use Rattle.std.specs.Iters.{counting}
 use Rattle.std.specs.shelf.Lists.{All, countBy}
-use Rattle.std.proofs.shelf.Tests.{cases-bool, not-true, not-from-false}
+use Rattle.std.proofs.shelf.Tests.{cases-bool, not-true}
 use Rattle.std.proofs.shelf.Elements.{all-weaker}
 use Rattle.std.specs.declared.option.Option.{Option}
 use Rattle.std.specs.declared.option.Option.the-variants.{Some, None}
 use Rattle.labels.specs.Item.{Tells}
-use Rattle.exchanges.specs.Trees.{IsPath, Trees, holds, picked, reduce, reduced, on, others}
+use Rattle.exchanges.specs.Trees.{IsPath, Trees, holds, reduce, reduced, on, others}
 use Rattle.exchanges.proofs.Counts.{count-le, count-not, count-kept, count-map, map-same, meet, length-others, all-others, path-short}
 use Rattle.exchanges.proofs.Reduce.{cases-option, some-none, picked-held, holds-is, is-holds, picked-some}
 

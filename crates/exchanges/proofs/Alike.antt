@@ -1,20 +1,18 @@
 -- What the rounds fill does not depend on what the slots held before.
-use mathlib.Core.Path.{_≡_, refl, sym, ap, subst, _∙_}
-use mathlib.Core.Bool.{Bool, false, cond, _&&_}
-use mathlib.Core.List.{List, [], _∷_, map}
-use mathlib.Core.Logic.{_⊎_, inl, inr}
-use Prim.Native.Nat.{ℕ, suc, zero, _+_, _<_, _≤_}
+use mathlib.Core.Path.{_≡_, sym, ap, subst, _∙_}
+use mathlib.Core.Bool.{cond, _&&_}
+use mathlib.Core.List.{List, [], _∷_}
+use mathlib.Core.Logic.{inl, inr}
+use Prim.Native.Nat.{ℕ, suc, zero, _<_, _≤_}
 use native.Mathlib.Omega.{arith}
 use lib.Dec.{eqb}
 use lib.ListN.{length}
-use Rattle.std.specs.Iters.{folded, counting}
-use Rattle.std.specs.Joined.{joined}
+use Rattle.std.specs.Iters.{folded}
 use Rattle.std.specs.shelf.Lists.{All}
-use Rattle.std.proofs.shelf.Elements.{all-weaker, all-map}
 use Rattle.std.proofs.shelf.Tests.{cases-eq}
 use Rattle.std.specs.declared.option.Option.{Option}
 use Rattle.exchanges.specs.Plane.{Plane, turn, carry, after}
-use Rattle.exchanges.specs.Trees.{IsPath, Trees, same-path, put, Hop, hops, Run, hop, fill-round, fill, on, others, level}
+use Rattle.exchanges.specs.Trees.{IsPath, same-path, Hop, hops, Run, hop, fill-round, fill, on}
 use Rattle.exchanges.proofs.Members.{In, At, in-hops, all-hops}
 use Rattle.exchanges.proofs.Fill.{put-same, put-shorter}
 

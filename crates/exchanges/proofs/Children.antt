@@ -1,22 +1,21 @@
 -- The slots of a path's children stand side by side, in rising order.
-use mathlib.Core.Path.{_≡_, refl, sym, ap, subst, _∙_}
-use mathlib.Core.Bool.{Bool, true, false, cond, not}
-use mathlib.Core.List.{List, [], _∷_, map}
+use mathlib.Core.Path.{_≡_, refl, sym, ap, _∙_}
+use mathlib.Core.Bool.{Bool, cond, not}
+use mathlib.Core.List.{List, _∷_, map}
 use mathlib.Core.Logic.{inl, inr}
 use Prim.Native.Nat.{ℕ, suc, zero, _+_, _-_, _*_, _<_, _≤_}
 use native.Mathlib.Omega.{arith}
-use native.Mathlib.Nat.{mul-le-mul, suc-mul, mul-comm}
+use native.Mathlib.Nat.{mul-le-mul, suc-mul}
 use lib.ListN.{length, getD, take, drop, set}
 use Rattle.std.specs.Iters.{counting}
-use Rattle.std.specs.shelf.Lists.{countBy, kept-by, All}
+use Rattle.std.specs.shelf.Lists.{countBy, kept-by}
 use Rattle.std.proofs.shelf.Lists.{ext-getD, length-take, length-drop, length-map, getD-take, getD-drop, getD-map}
-use Rattle.std.proofs.shelf.Elements.{all-getD}
 use Rattle.std.proofs.shelf.Tests.{cases-bool, cond-true, cond-false}
 use Rattle.std.specs.declared.option.Option.{Option}
 use Rattle.std.specs.declared.option.Option.the-variants.{None}
-use Rattle.exchanges.specs.Trees.{IsPath, on, others, lower, rank, start, paths-of, tree-size, place, picked, reduce}
+use Rattle.exchanges.specs.Trees.{IsPath, on, others, lower, rank, start, paths-of, tree-size, place, picked}
 use Rattle.exchanges.specs.Slots.{trail, slot, settle, Room}
-use Rattle.exchanges.proofs.Counts.{length-others, all-others, count-last}
+use Rattle.exchanges.proofs.Counts.{length-others, count-last}
 use Rattle.exchanges.proofs.Ranks.{off-below, rank-below}
 use Rattle.exchanges.proofs.Slots.{start-mono, all-small}
 use Rattle.exchanges.proofs.Trail.{length-trail}

@@ -1,9 +1,9 @@
 -- Counting boards: those of a list that pass a test, those on a path, those left over.
-use mathlib.Core.Path.{_≡_, refl, sym, ap, subst, _∙_}
+use mathlib.Core.Path.{_≡_, refl, sym, ap, _∙_}
 use mathlib.Core.Bool.{Bool, true, false, cond, not, _&&_, _||_}
 use mathlib.Core.List.{List, [], _∷_, map}
-use mathlib.Core.Logic.{_⊎_, inl, inr}
-use Prim.Native.Nat.{ℕ, suc, zero, _+_, _-_, _*_, _<_, _≤_}
+use mathlib.Core.Logic.{inl, inr}
+use Prim.Native.Nat.{ℕ, suc, zero, _+_, _-_, _<_, _≤_}
 use native.Mathlib.Omega.{arith}
 use native.Mathlib.Nat.{zero-add}
 use lib.Dec.{eqb}
@@ -14,7 +14,7 @@ use Rattle.std.proofs.shelf.Sums.{sumBy-cons, length-kept-by}
 use Rattle.std.proofs.shelf.Counted.{length-counting, sumBy-map-counting-more}
 use Rattle.std.proofs.shelf.Lists.{map-id}
 use native.Mathlib.Numerals.{add-one}
-use Rattle.std.proofs.shelf.Tests.{cases-bool, cases-eq, eq-eqb, ne-eqb, eqb-false, eqb-true, or-parts, and-from, not-from-false, not-from-true, not-true, cond-both, cond-true, cond-false}
+use Rattle.std.proofs.shelf.Tests.{cases-bool, cases-eq, eq-eqb, ne-eqb, eqb-false, or-parts, not-from-false, not-true, cond-both}
 use Rattle.std.proofs.shelf.Elements.{all-weaker}
 use Rattle.exchanges.specs.Boards.{count}
 use Rattle.exchanges.specs.Trees.{on, others, IsPath}

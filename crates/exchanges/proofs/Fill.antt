@@ -1,19 +1,18 @@
 -- What the rounds fill: each slot holds what the backplane answered to its sender's own slot.
 use mathlib.Core.Path.{_≡_, refl, sym, ap, subst, _∙_}
-use mathlib.Core.Bool.{Bool, true, false, cond, not, _&&_}
+use mathlib.Core.Bool.{true, false, _&&_}
 use mathlib.Core.List.{List, [], _∷_}
 use mathlib.Core.Logic.{_⊎_, inl, inr}
 use Prim.Native.Nat.{ℕ, suc, zero, _+_, _<_, _≤_}
 use native.Mathlib.Omega.{arith}
 use lib.Dec.{eqb, ltb}
-use lib.ListN.{length, getD}
+use lib.ListN.{length}
 use Rattle.std.specs.Iters.{folded}
 use Rattle.std.specs.shelf.Lists.{All}
-use Rattle.std.proofs.shelf.Tests.{cases-bool, cases-eq, cond-true, cond-false, and-parts, and-from, eqb-true, eq-eqb, false≢true, lt-ltb, ltb-true, cond-both}
+use Rattle.std.proofs.shelf.Tests.{cases-bool, cases-eq, cond-true, cond-false, and-parts, and-from, eqb-true, eq-eqb, false≢true, lt-ltb}
 use Rattle.std.specs.declared.option.Option.{Option}
-use Rattle.std.specs.declared.option.Option.the-variants.{Some, None}
 use Rattle.exchanges.specs.Plane.{Plane, turn, carry, after, last-round, next-round}
-use Rattle.exchanges.specs.Trees.{IsPath, Trees, same-path, put, own, Hop, hops, Run, hop, fill-round, fill}
+use Rattle.exchanges.specs.Trees.{IsPath, Trees, same-path, put, own, Hop, hops, Run, hop, fill}
 use Rattle.exchanges.proofs.Frames.{Frame, frame-same, frame-then, frame-call}
 use Rattle.exchanges.proofs.Members.{In, in-hops, all-long}
 

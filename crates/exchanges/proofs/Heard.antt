@@ -1,5 +1,5 @@
 -- What each board heard, read off the trees.
-use mathlib.Core.Path.{_≡_, refl, sym, ap, subst, _∙_}
+use mathlib.Core.Path.{_≡_, refl, sym, ap, _∙_}
 use mathlib.Core.Bool.{Bool}
 use mathlib.Core.List.{List, [], _∷_, _++_, map}
 use Prim.Native.Nat.{ℕ, suc, zero, _+_, _-_, _*_, _/_, _%_, _<_, _≤_}
@@ -12,8 +12,8 @@ use Rattle.std.proofs.shelf.Counted.{map-counting-more, length-map-counting}
 use Rattle.std.proofs.shelf.Bits.{div-below, mod-below}
 use Rattle.std.specs.declared.option.Option.{Option}
 use Rattle.std.specs.declared.option.Option.the-variants.{None}
-use Rattle.exchanges.specs.Trees.{IsPath, Trees, place, grid, reduced, tree-size, workspace}
-use Rattle.exchanges.specs.Slots.{slot, Room, Stands, reduced-down}
+use Rattle.exchanges.specs.Trees.{Trees, grid, reduced, tree-size, workspace}
+use Rattle.exchanges.specs.Slots.{Room, Stands, reduced-down}
 use Rattle.exchanges.proofs.Counts.{all-counting, map-same}
 use Rattle.exchanges.proofs.Ranks.{place-single}
 use Rattle.exchanges.proofs.Slots.{slot-below, all-small}

@@ -1,6 +1,6 @@
 -- The tree exchange keeps the meaning of an exchange over every backplane that keeps its own. Assumes nothing.
 use mathlib.Core.Path.{_≡_, refl, sym, ap, _∙_}
-use mathlib.Core.Bool.{Bool, true, false, _&&_}
+use mathlib.Core.Bool.{Bool, true}
 use mathlib.Core.List.{List, [], _∷_}
 use mathlib.Core.Logic.{_⊎_, inl, inr}
 use Prim.Native.Nat.{ℕ, suc, zero, _+_, _*_, _/_, _%_, _<_, _≤_}
@@ -13,17 +13,17 @@ use Rattle.std.proofs.shelf.Bits.{mul-add-lt, div-mul-add, mod-mul-add}
 use Rattle.std.specs.shelf.Lists.{countBy}
 use Rattle.std.specs.Iters.{counting}
 use Rattle.std.specs.declared.option.Option.{Option}
-use Rattle.std.specs.declared.option.Option.the-variants.{Some, None}
+use Rattle.std.specs.declared.option.Option.the-variants.{None}
 use Rattle.labels.specs.Item.{Tells}
-use Rattle.exchanges.specs.Boards.{fits, count, Sound, most-boards}
-use Rattle.exchanges.specs.Plane.{Plane, last-round}
+use Rattle.exchanges.specs.Boards.{fits, Sound, most-boards}
+use Rattle.exchanges.specs.Plane.{Plane}
 use Rattle.exchanges.specs.Plane as planes
 use Rattle.exchanges.specs.Exchange.{heard}
-use Rattle.exchanges.specs.Trees.{IsPath, Trees, own, filled, reduced, grid, all-clear, tree-run, tree-way, Trees-keep}
-use Rattle.exchanges.proofs.Frames.{Frame, sound-in}
+use Rattle.exchanges.specs.Trees.{Trees, own, filled, reduced, grid, all-clear, tree-run, tree-way, Trees-keep}
+use Rattle.exchanges.proofs.Frames.{sound-in}
 use Rattle.exchanges.proofs.Overs.{Begins, Bears, Well, over-keeps}
 use Rattle.exchanges.proofs.Counts.{count-is}
-use Rattle.exchanges.proofs.Fill.{From, from-self, fill-from, fill-frame, fill-own, fill-answered}
+use Rattle.exchanges.proofs.Fill.{from-self, fill-from, fill-frame, fill-own, fill-answered}
 use Rattle.exchanges.proofs.Agree.{Lossy, Lossless, sound-kept, sound-told, bad-common}
 
 heard-grid : {I : Type 0} (n p q : ℕ) (f : ℕ → ℕ → Option I) → p < n → q < n → heard n (grid n f) p q ≡ f p q

@@ -1,6 +1,6 @@
 -- What stands in the lists of paths and carries.
 use mathlib.Core.Path.{_≡_, refl, sym, ap, subst, _∙_}
-use mathlib.Core.Bool.{Bool, true, false, cond, not}
+use mathlib.Core.Bool.{Bool, true, false, not}
 use mathlib.Core.List.{List, [], _∷_, _++_, map}
 use mathlib.Core.Logic.{_⊎_, inl, inr}
 use Prim.Native.Nat.{ℕ, suc, zero, _+_, _<_, _≤_}
@@ -9,7 +9,7 @@ use lib.ListN.{length}
 use Rattle.std.specs.Iters.{counting}
 use Rattle.std.specs.Joined.{joined}
 use Rattle.std.specs.shelf.Lists.{All, kept-by}
-use Rattle.std.proofs.shelf.Elements.{all-append, all-map, all-weaker}
+use Rattle.std.proofs.shelf.Elements.{all-map, all-weaker}
 use Rattle.std.proofs.shelf.Tests.{cases-eq, cond-both, not-from-false, both-ways}
 use Rattle.exchanges.specs.Trees.{IsPath, on, others, level, Hop, hops}
 use Rattle.exchanges.proofs.Counts.{all-counting, all-others}

@@ -1,6 +1,6 @@
 -- Carries one after the other: the loops over senders and paths make the carries of a round in its order.
 use mathlib.Core.Path.{_≡_, refl, sym, ap, subst, _∙_}
-use mathlib.Core.Bool.{Bool, true, false, cond, not}
+use mathlib.Core.Bool.{Bool, true, false, cond}
 use mathlib.Core.List.{List, [], _∷_, _++_, map}
 use Prim.Native.Nat.{ℕ, suc, zero, _+_}
 use native.Mathlib.Omega.{arith}
@@ -13,7 +13,7 @@ use Rattle.std.proofs.shelf.Tests.{cond-true, cond-false}
 use Rattle.std.specs.declared.option.Option.{Option}
 use Rattle.exchanges.specs.Plane.{Plane}
 use Rattle.exchanges.specs.Trees.{others, level, Hop, hops}
-use Rattle.exchanges.specs.Slots.{Work, Worked, carried, hops-from, hops-on, hops-under}
+use Rattle.exchanges.specs.Slots.{Work, Worked, hops-on, hops-under}
 
 folded-append : {A B : Type 0} (f : B → A → B) (a : B) (xs ys : List A) → folded f a (xs ++ ys) ≡ folded f (folded f a xs) ys
 folded-append f a [] ys = refl

@@ -1,9 +1,9 @@
 -- The rank of a path is its place in the level of its length.
-use mathlib.Core.Path.{_≡_, refl, sym, ap, subst, _∙_}
-use mathlib.Core.Bool.{Bool, true, false, cond, not, _&&_, _||_}
+use mathlib.Core.Path.{_≡_, refl, sym, ap, _∙_}
+use mathlib.Core.Bool.{Bool, true, false, not}
 use mathlib.Core.List.{List, [], _∷_, _++_, map}
-use mathlib.Core.Logic.{_⊎_, inl, inr}
-use Prim.Native.Nat.{ℕ, suc, zero, _+_, _-_, _*_, _<_, _≤_}
+use mathlib.Core.Logic.{inl, inr}
+use Prim.Native.Nat.{ℕ, suc, zero, _+_, _-_, _*_, _<_}
 use native.Mathlib.Omega.{arith}
 use native.Mathlib.Nat.{zero-mul, suc-mul}
 use lib.Dec.{eqb, ltb}
@@ -13,9 +13,8 @@ use Rattle.std.specs.Joined.{joined}
 use Rattle.std.specs.shelf.Lists.{All, countBy, kept-by}
 use Rattle.std.proofs.shelf.Lists.{length-append, length-map, getD-append-left, getD-append-right, getD-map}
 use Rattle.std.proofs.shelf.Elements.{all-weaker, all-append, all-map}
-use Rattle.std.proofs.shelf.Sums.{length-kept-by}
 use Rattle.std.proofs.shelf.Bits.{mul-add-lt}
-use Rattle.std.proofs.shelf.Tests.{cases-bool, cases-eq, cases-lt, lt-ltb, le-ltb, not-from-false, cond-true, cond-false}
+use Rattle.std.proofs.shelf.Tests.{cases-bool, cases-lt, lt-ltb, le-ltb, not-from-false, cond-true, cond-false}
 use Rattle.exchanges.specs.Trees.{IsPath, on, others, level, lower, rank, place, paths-of}
 use Rattle.exchanges.proofs.Counts.{count-yes, count-no, count-same, count-minus, minus, minus-other, not-or, all-counting, all-of, count-all, length-others, all-others}
 

@@ -1,12 +1,12 @@
 -- Where the slots stand, and one carry more.
-use mathlib.Core.Path.{_≡_, refl, sym, ap, subst, _∙_}
+use mathlib.Core.Path.{_≡_, refl, ap, _∙_}
 use mathlib.Core.Logic.{_≢_}
-use mathlib.Core.List.{List, [], _∷_, _++_, map}
+use mathlib.Core.List.{List, [], _∷_}
 use Prim.Native.Nat.{ℕ, suc, zero, _+_, _-_, _*_, _<_, _≤_}
 use native.Mathlib.Omega.{arith}
 use native.Mathlib.Numerals.{add-one}
 use lib.ListN.{length, getD, set}
-use Rattle.std.specs.Iters.{counting, folded}
+use Rattle.std.specs.Iters.{folded}
 use Rattle.std.proofs.shelf.Bits.{mul-add-lt}
 use Rattle.std.proofs.shelf.Lists.{getD-set-same, getD-set-other}
 use Rattle.std.proofs.shelf.Sums.{folded-push}
@@ -14,7 +14,7 @@ use Rattle.std.proofs.shelf.Counted.{map-counting-more}
 use Rattle.std.specs.declared.option.Option.{Option}
 use Rattle.exchanges.specs.Boards.{most-boards}
 use Rattle.exchanges.specs.Plane.{Plane, carry, after}
-use Rattle.exchanges.specs.Trees.{IsPath, Hop, rank, place, start, paths-of, tree-size}
+use Rattle.exchanges.specs.Trees.{IsPath, Hop, place, start, tree-size}
 use Rattle.exchanges.specs.Slots.{trail, slot, held, Work, carried, hops-from, Room, Worked}
 use Rattle.exchanges.proofs.Ranks.{rank-below}
 use Rattle.exchanges.proofs.Trail.{length-trail}

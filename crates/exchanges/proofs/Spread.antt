@@ -15,7 +15,7 @@ use Rattle.std.proofs.shelf.Counted.{length-counting, getD-counting, fill-by-al
 use Rattle.std.proofs.shelf.Elements.{all-weaker}
 use Rattle.std.specs.declared.option.Option.{Option}
 use Rattle.std.specs.declared.option.Option.the-variants.{None}
-use Rattle.exchanges.specs.Trees.{IsPath, Trees, others, level, lower, rank, place, start, paths, paths-of, tree-size, reduced, workspace}
+use Rattle.exchanges.specs.Trees.{IsPath, Trees, others, level, rank, place, start, paths, paths-of, tree-size, reduced, workspace}
 use Rattle.exchanges.specs.Slots.{slot}
 use Rattle.exchanges.proofs.Counts.{length-others, all-counting, map-same}
 use Rattle.exchanges.proofs.Ranks.{all-paths, all-joined-at}

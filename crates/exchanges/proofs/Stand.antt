@@ -1,27 +1,24 @@
 -- The slots that the carries fill hold the trees that the rounds fill.
-use mathlib.Core.Path.{_≡_, refl, sym, ap, subst, _∙_}
-use mathlib.Core.Bool.{Bool, true, false}
-use mathlib.Core.List.{List, [], _∷_, map}
-use mathlib.Core.Logic.{_⊎_, inl, inr, _≢_}
-use Prim.Native.Nat.{ℕ, suc, zero, _+_, _-_, _*_, _/_, _%_, _<_, _≤_}
+use mathlib.Core.Path.{_≡_, sym, ap, subst, _∙_}
+use mathlib.Core.List.{List, [], _∷_}
+use mathlib.Core.Logic.{inl, inr}
+use Prim.Native.Nat.{ℕ, suc, _+_, _-_, _*_, _/_, _%_, _<_, _≤_}
 use native.Mathlib.Omega.{arith}
 use lib.ListN.{length, getD, set, drop, length-set}
-use Rattle.std.specs.Iters.{counting, folded}
-use Rattle.std.specs.Joined.{joined}
+use Rattle.std.specs.Iters.{folded}
 use Rattle.std.specs.shelf.Lists.{All}
 use Rattle.std.proofs.shelf.Lists.{getD-set-same, getD-set-other, drop-set-lt}
-use Rattle.std.proofs.shelf.Elements.{all-weaker, all-append, all-map}
 use Rattle.std.proofs.shelf.Bits.{div-mul-add, mod-mul-add}
 use Rattle.std.proofs.shelf.Tests.{cases-eq, cases-order}
 use Rattle.std.specs.declared.option.Option.{Option}
 use Rattle.std.specs.declared.option.Option.the-variants.{None}
 use Rattle.exchanges.specs.Plane.{Plane, carry, after}
-use Rattle.exchanges.specs.Trees.{IsPath, Trees, put, Hop, hops, Run, hop, rank, place, start, paths-of, tree-size, Own-places}
+use Rattle.exchanges.specs.Trees.{IsPath, Trees, put, Hop, Run, hop, place, start, tree-size, Own-places}
 use Rattle.exchanges.specs.Slots.{slot, held, Work, carried, Stands}
 use Rattle.exchanges.proofs.Ranks.{rank-below, rank-once}
-use Rattle.exchanges.proofs.Members.{At, all-hops}
+use Rattle.exchanges.proofs.Members.{At}
 use Rattle.exchanges.proofs.Fill.{put-same, put-cases, put-shorter}
-use Rattle.exchanges.proofs.Slots.{place-below, slot-below, start-mono, start-up}
+use Rattle.exchanges.proofs.Slots.{place-below, slot-below, start-mono}
 
 -- a shorter path stands before a longer one
 place-before : (n : ℕ) (α β : List ℕ) → IsPath n α → 1 ≤ length α → length α < length β → place n α < place n β

@@ -1,7 +1,7 @@
 -- All rounds of a firm exchange, in slots and in trees. Assumes nothing.
 use mathlib.Core.Path.{_≡_, refl, sym, ap, subst, _∙_}
 use mathlib.Core.List.{List, [], _∷_}
-use Prim.Native.Nat.{ℕ, suc, zero, _+_, _*_, _<_, _≤_}
+use Prim.Native.Nat.{ℕ, suc, _+_, _*_, _<_, _≤_}
 use native.Mathlib.Omega.{arith}
 use lib.ListN.{length, getD, take, drop}
 use Rattle.std.specs.Iters.{folded}
@@ -12,12 +12,11 @@ use Rattle.std.specs.declared.result.Result.{Result}
 use Rattle.std.specs.declared.result.Result.the-variants.{Ok, Err}
 use Rattle.labels.specs.declared.refusal.Refusal.{Refusal}
 use Rattle.exchanges.specs.Plane.{Plane, turn, after, last-round, Turned}
-use Rattle.exchanges.specs.Trees.{IsPath, Run, Hop, hop, hops, fill, fill-round, filled, tree-size}
+use Rattle.exchanges.specs.Trees.{IsPath, Run, Hop, hops, fill, fill-round, filled, tree-size}
 use Rattle.exchanges.specs.Trees.{own as own-of}
-use Rattle.exchanges.specs.Slots.{held, Work, Worked, carried, hops-under, Stands}
+use Rattle.exchanges.specs.Slots.{held, Worked, carried, hops-under, Stands}
 use Rattle.exchanges.proofs.Fill.{from-self, fill-from}
 use Rattle.exchanges.proofs.Members.{all-hops}
-use Rattle.exchanges.proofs.Slots.{held-at}
 use Rattle.exchanges.proofs.Orders.{hops-all}
 use Rattle.exchanges.proofs.Stand.{Agrees, fold-agrees}
 use Rattle.exchanges.proofs.Alike.{Alike, fill-alike}
@@ -26,9 +25,6 @@ module _ {I : Type 0} (n t size : ℕ) (own : List (Option I)) where
   -- what the slots hold at first
   abbrev pub first : Plane I → List (Option I) → Run I
   first b ws = record { plane = b; trees = held n size own ws }
-
-  pub agrees-first : (b : Plane I) (ws : List (Option I)) → n * size ≤ length ws → Agrees n t size own (drop (n * size) ws) (record { plane = b; slots = ws }) (first b ws)
-  agrees-first b ws l = record { planes = refl; stands = record { sends = λ q h. refl; holds = λ p α lp path one m. sym (held-at n size own ws p α one) }; roomy = l; beyond = refl }
 
   pub agrees-round : (sized : size ≡ tree-size n t) (rest : List (Option I)) (b b₁ b₂ : Plane I) (ws ws₂ : List (Option I)) (R : Run I) (r : ℕ) → r ≤ t → Agrees n t size own rest (record { plane = b; slots = ws }) R → b₁ ≡ after b turn → Worked b₂ ws₂ (folded (carried n size own) (record { plane = b₁; slots = ws }) (hops-under n [] r)) → Agrees n t size own rest (record { plane = b₂; slots = ws₂ }) (fill-round n R r)
   agrees-round sized rest b b₁ b₂ ws ws₂ R r l a e k =

@@ -7,7 +7,7 @@ use lib.ListN.{length, getD, set}
 use Rattle.std.specs.Iters.{counting, folded}
 use Rattle.std.specs.Joined.{joined}
 use Rattle.std.specs.declared.option.Option.{Option}
-use Rattle.std.specs.declared.option.Option.the-variants.{Some, None}
+use Rattle.std.specs.declared.option.Option.the-variants.{None}
 use Rattle.exchanges.specs.Boards.{most-boards}
 use Rattle.exchanges.specs.Plane.{Plane, carry, after}
 use Rattle.exchanges.specs.Trees.{IsPath, Trees, Hop, place, tree-size, others, reduce}

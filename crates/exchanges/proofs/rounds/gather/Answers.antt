@@ -1,6 +1,6 @@
-use mathlib.Core.Path.{_≡_, _∙_, sym, ap, subst, refl}
-use mathlib.Core.List.{List, []}
-use Prim.Native.Nat.{ℕ, suc, _+_, _*_}
+use mathlib.Core.Path.{_≡_, sym, subst, refl}
+use mathlib.Core.List.{[]}
+use Prim.Native.Nat.{ℕ, _+_, _*_}
 use lib.ListN.{drop}
 use native.Mathlib.Omega.{arith}
 use native.Mathlib.Numerals.{add-one}

@@ -1,4 +1,4 @@
-use mathlib.Core.Path.{_≡_, _∙_, sym, ap}
+use mathlib.Core.Path.{sym, ap}
 use mathlib.Core.Bool.{not}
 use Rattle.exchanges.specs.Trees.{on}
 use Rattle.exchanges.specs.Slots.{trail, Work, carried, hops-from}

@@ -1,9 +1,10 @@
 use mathlib.Core.Path.{_≡_, _∙_, sym, ap, subst}
-use mathlib.Core.List.{List, _∷_}
+use mathlib.Core.List.{List, []}
 use native.Mathlib.Omega.{arith}
 use borrow.Author.Needs.{needs}
 use Prim.Native.Nat.{ℕ, _+_, _*_, _<_}
 use lib.ListN.{length, set}
+use Rattle.exchanges.specs.Plane.{carry, after}
 use Rattle.exchanges.specs.Trees.{IsPath, place}
 use Rattle.std.specs.Iters.{folded}
 use Rattle.exchanges.specs.Slots.{trail, Worked, Work, carried, hops-from}
@@ -37,5 +38,8 @@ loop-p-again g c =
     let start : Work (g .I .Denot) = record { plane = g .B·Backplane .plane (c .args .b .now); slots = c .args .ws .now } in
     let own = c .args .own .now in
     let at = ap (λ (x : ℕ). c .loop-p .p * c .args .shape .size + x) (c .place-place .ensures ∙ ap (place (c .args .shape .n)) (c .add .ensures .added)) in
-    let step = work-step (c .args .shape .n) (c .args .shape .size) own (folded (carried (c .args .shape .n) (c .args .shape .size) own) start (hops-from (c .loop-p .p) α (c .args .q))) (record { path = α; from = c .args .q; to = c .loop-p .p }) (g .B·Backplane .plane (c .loop-p .b)) (g .B·Backplane .plane (c .carry .last .self)) (c .loop-p .ws) (c .read-item .result) (c .carry .result) (c .loop-p .p * c .args .shape .size + c .place-place .result) (c .loop-p .inv) (c .read-item .ensures) (c .carry .ensures .answers) (c .carry .ensures .leaves) at in
+    let b = g .B·Backplane .plane (c .loop-p .b) in
+    let answers : c .carry .result ≡ b .answer [] (c .args .q) (c .loop-p .p) (c .read-item .result) = cc (c .carry .ensures .answers) in
+    let leaves : g .B·Backplane .plane (c .carry .last .self) ≡ after b (carry (c .args .q) (c .loop-p .p) (c .read-item .result)) = cc (c .carry .ensures .leaves) in
+    let step = work-step (c .args .shape .n) (c .args .shape .size) own (folded (carried (c .args .shape .n) (c .args .shape .size) own) start (hops-from (c .loop-p .p) α (c .args .q))) (record { path = α; from = c .args .q; to = c .loop-p .p }) (g .B·Backplane .plane (c .loop-p .b)) (g .B·Backplane .plane (c .carry .last .self)) (c .loop-p .ws) (c .read-item .result) (c .carry .result) (c .loop-p .p * c .args .shape .size + c .place-place .result) (c .loop-p .inv) (c .read-item .ensures) answers leaves at in
     subst (λ (w : Work (g .I .Denot)). Worked (g .B·Backplane .plane (c .carry .last .self)) (set (c .loop-p .ws) (c .loop-p .p * c .args .shape .size + c .place-place .result) (c .carry .result)) w) (sym (sent-more (c .args .shape .n) (c .args .shape .size) own start α (c .args .q) (c .loop-p .p))) step

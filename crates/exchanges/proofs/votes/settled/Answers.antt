@@ -1,6 +1,5 @@
-use mathlib.Core.Path.{_≡_, _∙_, sym, ap}
+use mathlib.Core.Path.{_∙_, sym}
 use native.Mathlib.Omega.{arith}
-use lib.ListN.{drop, length}
 use Rattle.std.proofs.shelf.Lists.{at-drop-all}
 use Rattle.exchanges.specs.Trees.{picked}
 use Rattle.exchanges.proofs.Picking.{pick-yes, pick-no, pick-none}

@@ -1,6 +1,6 @@
-use mathlib.Core.Path.{_≡_, refl, sym, ap, _∙_}
+use mathlib.Core.Path.{refl}
 use native.Mathlib.Omega.{arith}
-use Prim.Native.Nat.{ℕ, _+_, _-_, _*_, _≤_, _<_}
+use Prim.Native.Nat.{_-_}
 use Rattle.exchanges.proofs.Trail.{path-less, place-is, place-split, place-small, lower-fits, path-short-of}
 use Rattle.exchanges.proofs.path.Path.+place_of.Needs as need
 

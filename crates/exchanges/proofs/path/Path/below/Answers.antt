@@ -1,4 +1,3 @@
-use mathlib.Core.Path.{_∙_, sym, ap}
 use native.Mathlib.Omega.{arith}
 use Rattle.exchanges.proofs.Trail.{lower-yes, lower-no}
 use Rattle.exchanges.proofs.path.Path.below.Needs as need

@@ -1,10 +1,10 @@
-use mathlib.Core.Path.{_≡_, refl, sym, ap, _∙_}
+use mathlib.Core.Path.{_≡_, ap}
 use native.Mathlib.Omega.{arith}
 use native.Mathlib.Nat.{mul-le-mul}
-use Prim.Native.Nat.{ℕ, _+_, _-_, _*_, _≤_, _<_}
-use Rattle.exchanges.specs.Trees.{rank, paths-of}
+use Prim.Native.Nat.{ℕ, _+_, _-_, _*_}
+use Rattle.exchanges.specs.Trees.{rank}
 use Rattle.exchanges.specs.Slots.{trail}
-use Rattle.exchanges.proofs.Trail.{path-less, place-split, place-small, path-short-of, length-trail}
+use Rattle.exchanges.proofs.Trail.{path-less, place-split, place-small, path-short-of}
 use Rattle.exchanges.proofs.Table.{start-small}
 use Rattle.exchanges.proofs.path.Path.children.Needs as need
 

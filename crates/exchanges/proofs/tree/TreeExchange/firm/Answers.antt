@@ -1,8 +1,4 @@
 use mathlib.Core.Path.{refl}
-use native.Mathlib.Omega.{arith}
-use Prim.Native.Nat.{ℕ}
-use lib.ListN.{length}
-use Rattle.exchanges.specs.declared.tree.Tree.{Tree}
 use Rattle.exchanges.specs.Trees.{tree-way, tree-exchange}
 use Rattle.exchanges.proofs.Keep.{tree-well}
 use Rattle.exchanges.proofs.Asks.{firm-asked}

@@ -1,5 +1,4 @@
 use mathlib.Core.Path.{refl}
-use Rattle.exchanges.specs.declared.tree.Tree.{Tree}
 use Rattle.exchanges.specs.Trees.{tree-way, tree-exchange}
 use Rattle.exchanges.proofs.Keep.{tree-well}
 use Rattle.exchanges.proofs.Asks.{plain-asked}
