@@ -2,6 +2,10 @@
 //
 // The input is one panel after another: the number of the label kind (one byte), the number of
 // boards (one byte), and a label for each board.
+mod firm_steps;
+mod traced;
+
+use crate::firm_steps::show_firm;
 use labels::fault::FaultDisplay;
 use labels::frame_number::FrameNumber;
 use labels::kinds::FrameNumberDisplay;
@@ -90,6 +94,7 @@ fn show_panel<L: Label + Display>(
         if start <= end && end <= input.len() {
             write_back(rt, proposals.as_slice(), &input[start..end])?;
         }
+        show_firm(rt, proposals.as_slice())?;
     }
     Ok(end)
 }

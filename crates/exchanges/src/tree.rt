@@ -120,6 +120,14 @@ impl<B> Tree<B> {
     {
         Tree { plane, faults }
     }
+
+    // The backplane, given back.
+    pub fn into_plane(self) -> B
+        ensures { λ r. ⌜ r ≡ self .plane ⌝ }
+    {
+        let Tree { plane, faults: _ } = self;
+        plane
+    }
 }
 
 pub impl<I: Item, B: Backplane<I>> Exchange<I> for Tree<B> as TreeExchange {
