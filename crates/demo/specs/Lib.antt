@@ -1,1 +1,2 @@
 pub mod Traced
+pub mod Watched

@@ -4,6 +4,7 @@
 // boards (one byte), and a label for each board.
 mod firm_steps;
 mod traced;
+mod watched;
 
 use crate::firm_steps::show_firm;
 use labels::fault::FaultDisplay;
