@@ -1,0 +1,10 @@
+pub mod Counts
+pub mod Slips
+pub mod Rows
+pub mod Chosen
+pub mod Safe
+pub mod Sure
+pub mod Phases
+pub mod Histories
+pub mod Choosing
+pub mod Examples
