@@ -70,21 +70,21 @@ module _ {L : Type 0} {o : Comparison L} (T : Total o) (n t : ℕ) (claims : Row
   none-stands out = no-some _ (λ r e. out r (best-stands r e))
 
   abbrev often : Slip L → ℕ
-  often s = times o n t claims (s .label)
+  often s = times o n claims (s .label)
 
-  by-count : ((r : Slip L) → Standing o n t claims picks r → ⊥) → n - t ≤ count (λ q. unphased (claims q)) n → (v : L) → 1 ≤ times o n t claims v → ((u : L) → (times o n t claims u < times o n t claims v) ⊎ ((times o n t claims u ≡ times o n t claims v) × (wins-often o u v ≡ false))) → choice-of o n t claims picks ≡ Some v
+  by-count : ((r : Slip L) → Standing o n t claims picks r → ⊥) → n - t ≤ count (λ q. unphased (claims q)) n → (v : L) → 1 ≤ times o n claims v → ((u : L) → (times o n claims u < times o n claims v) ⊎ ((times o n claims u ≡ times o n claims v) × (wins-often o u v ≡ false))) → choice-of o n t claims picks ≡ Some v
   by-count out z v heard top =
       let p = some-board (λ q. has-label o v (claims q)) n heard in
       let k = has-true T v (claims (p .0)) (p .2) in
       let b = best-some (ahead (wins-often o) often) claims n (p .0) (k .0) (p .1) (k .1) in
       let x : ahead (wins-often o) often (k .0) (b .0) ≡ false = no-true _ (best-top (often-strict T) often claims n (b .0) (b .1) (p .0) (k .0) (p .1) (k .1)) in
-      let y : ahead (wins-often o) often (b .0) (k .0) ≡ false = behind (often-strict T) often (b .0) (k .0) (subst (λ w. (often (b .0) < times o n t claims w) ⊎ ((often (b .0) ≡ times o n t claims w) × (wins-often o (b .0 .label) w ≡ false))) (sym (k .2)) (top (b .0 .label))) in
+      let y : ahead (wins-often o) often (b .0) (k .0) ≡ false = behind (often-strict T) often (b .0) (k .0) (subst (λ w. (often (b .0) < times o n claims w) ⊎ ((often (b .0) ≡ times o n claims w) × (wins-often o (b .0 .label) w ≡ false))) (sym (k .2)) (top (b .0 .label))) in
       ap pick-one (none-stands out)
-      ∙ (ap (λ c. label-of (cond c (most-often o n t claims) None)) (le-leb _ _ z)
+      ∙ (ap (λ c. label-of (cond c (most-often o n claims) None)) (le-leb _ _ z)
       ∙ (ap label-of (b .1) ∙ ap Some (sym (level-same (often-strict T) often (k .0) (b .0) x y) ∙ k .2)))
 
   by-none : ((r : Slip L) → Standing o n t claims picks r → ⊥) → count (λ q. unphased (claims q)) n < n - t → choice-of o n t claims picks ≡ None
-  by-none out z = ap pick-one (none-stands out) ∙ ap (λ c. label-of (cond c (most-often o n t claims) None)) (lt-leb _ _ z)
+  by-none out z = ap pick-one (none-stands out) ∙ ap (λ c. label-of (cond c (most-often o n claims) None)) (lt-leb _ _ z)
 
 not-less : (k : Ordering) → (k ≡ Less → ⊥) → isLt k ≡ false
 not-less Less h = absurd (h refl)
@@ -172,7 +172,7 @@ module _ {L : Type 0} {o : Comparison L} (T : Total o) (n t f : ℕ) (claims : R
   none-counted out r h = out r (from-standing r h)
 
   abbrev said : L → ℕ
-  said v = times o n t counted v
+  said v = times o n counted v
 
   open-counted : Open o n t f claims picks → n - t ≤ count (λ q. unphased (counted q)) n
   open-counted z = many-count (n - t) n Zero (λ q. unphased (counted q)) zero-made z
@@ -201,13 +201,13 @@ module _ {L : Type 0} {o : Comparison L} (T : Total o) (n t f : ℕ) (claims : R
       behind-by r s (inl l) = inl l
       behind-by r s (inr h) = inr (h .0, not-less (o (r .label) (s .label)) (h .1))
 
-module _ {L : Type 0} {o : Comparison L} (T : Total o) (n t k f : ℕ) (row : Row L) (pos : 1 ≤ k) where
+module _ {L : Type 0} {o : Comparison L} (T : Total o) (n k f : ℕ) (row : Row L) (pos : 1 ≤ k) where
   abbrev level-row : Row L
-  level-row q = only (heard-enough o n t k f row) (row q)
+  level-row q = only (heard-enough o n k f row) (row q)
 
   enough-parts : (q : ℕ) (s : Slip L) → level-row q ≡ Some s → (s .phase ≡ f) × (k ≤ count (λ q. is-slip o (s .label) f (row q)) n)
   enough-parts q s e =
-      let c = only-from (heard-enough o n t k f row) (row q) s e in
+      let c = only-from (heard-enough o n k f row) (row q) s e in
       let a = and-parts (eqb (s .phase) f) (leb k (count (λ q. is-slip o (s .label) f (row q)) n)) (c .1) in
       (eqb-true _ _ (a .0), leb-true _ _ (a .1))
 
@@ -220,14 +220,14 @@ module _ {L : Type 0} {o : Comparison L} (T : Total o) (n t k f : ℕ) (row : Ro
   heard-from : (v : L) → k ≤ heard-times v → Many k n (λ q. row q ≡ Some (slip v f))
   heard-from v l = ((λ q. is-slip o v f (row q)), l, λ q lq e. is-true T v f (row q) e)
 
-  pub smallest : Smallest o n t k f row
+  pub smallest : Smallest o n k f row
   unfolding enough
   smallest = record {
     some = λ v m least.
         let h = heard-made v m in
         let p = some-board (λ q. is-slip o v f (row q)) n (omega arith) in
         let e = is-true T v f (row (p .0)) (p .2) in
-        let here : level-row (p .0) ≡ Some (slip v f) = only-made (heard-enough o n t k f row) (row (p .0)) (slip v f) e (and-from (eqb f f) (leb k (heard-times v)) (eq-eqb f f refl) (le-leb _ _ h)) in
+        let here : level-row (p .0) ≡ Some (slip v f) = only-made (heard-enough o n k f row) (row (p .0)) (slip v f) e (and-from (eqb f f) (leb k (heard-times v)) (eq-eqb f f refl) (le-leb _ _ h)) in
         let b = best-some (later o) level-row n (p .0) (slip v f) (p .1) here in
         let m = best-from (later o) level-row n (b .0) (b .1) in
         let u = enough-parts (m .0) (b .0) (m .2) in

@@ -51,33 +51,33 @@ module _ {L : Type 0} {o : Comparison L} (T : Total o) (n t : ℕ) (claims : Row
 
   -- how often a slip's label was heard
   abbrev often : Slip L → ℕ
-  often s = times o n t claims (s .label)
+  often s = times o n claims (s .label)
 
-  most : (r : Slip L) → most-often o n t claims ≡ Some r → (u : L) → times o n t claims u ≤ often r
-  most r e u = go (cases-lt 0 (times o n t claims u))
+  most : (r : Slip L) → most-often o n claims ≡ Some r → (u : L) → times o n claims u ≤ often r
+  most r e u = go (cases-lt 0 (times o n claims u))
     where
-      found : (q : ℕ) × (q < n) × (has-label o u (claims q) ≡ true) → times o n t claims u ≤ often r
+      found : (q : ℕ) × (q < n) × (has-label o u (claims q) ≡ true) → times o n claims u ≤ often r
       found p =
           let k = has-true T u (claims (p .0)) (p .2) in
           let m = best-most (ahead (wins-often o) often) claims often (ahead-up (often-strict T) often) (ahead-down (often-strict T) often) n r e (p .0) (k .0) (p .1) (k .1) in
-          let z : often (k .0) ≡ times o n t claims u = ap (times o n t claims) (k .2) in
+          let z : often (k .0) ≡ times o n claims u = ap (times o n claims) (k .2) in
           omega arith
 
-      go : (0 < times o n t claims u) ⊎ (times o n t claims u ≤ 0) → times o n t claims u ≤ often r
+      go : (0 < times o n claims u) ⊎ (times o n claims u ≤ 0) → times o n claims u ≤ often r
       go (inl k) = found (some-board _ n k)
       go (inr k) = omega arith
 
   -- where the choice comes from
   abbrev pub Reason : L → Type 0
-  Reason v = ((s : Slip L) × (s .label ≡ v) × Standing o n t claims picks s) ⊎ ((n - t ≤ count (λ q. unphased (claims q)) n) × ((u : L) → times o n t claims u ≤ times o n t claims v))
+  Reason v = ((s : Slip L) × (s .label ≡ v) × Standing o n t claims picks s) ⊎ ((n - t ≤ count (λ q. unphased (claims q)) n) × ((u : L) → times o n claims u ≤ times o n claims v))
 
   pub choice-reason : (v : L) → choice-of o n t claims picks ≡ Some v → Reason v
   choice-reason v e = go (standing o n t claims picks) refl e
     where
-      by-count : (b : Bool) → leb (n - t) (count (λ q. unphased (claims q)) n) ≡ b → label-of (cond b (most-often o n t claims) None) ≡ Some v → Reason v
+      by-count : (b : Bool) → leb (n - t) (count (λ q. unphased (claims q)) n) ≡ b → label-of (cond b (most-often o n claims) None) ≡ Some v → Reason v
       by-count true k h =
-          let p = label-from (most-often o n t claims) v h in
-          inr (leb-true _ _ k, λ u. subst (λ w. times o n t claims u ≤ times o n t claims w) (p .2) (most (p .0) (p .1) u))
+          let p = label-from (most-often o n claims) v h in
+          inr (leb-true _ _ k, λ u. subst (λ w. times o n claims u ≤ times o n claims w) (p .2) (most (p .0) (p .1) u))
       by-count false k h = absurd (none≢some v h)
 
       go : (S : Slot L) → standing o n t claims picks ≡ S → label-of (cond (isSome S) S (fallback o n t claims)) ≡ Some v → Reason v
@@ -101,14 +101,14 @@ module _ {L : Type 0} {o : Comparison L} (T : Total o) (n t : ℕ) (claims : Row
       an None e = absurd (false≢true e)
       an (Some s) e = (s, refl)
 
-      most-some : (r : Slip L) × (most-often o n t claims ≡ Some r)
+      most-some : (r : Slip L) × (most-often o n claims ≡ Some r)
       most-some =
           let p = some-board (λ q. unphased (claims q)) n (omega arith) in
           let k = an (claims (p .0)) (p .2) in
           best-some (ahead (wins-often o) often) claims n (p .0) (k .0) (p .1) (k .1)
 
       go : (S : Slot L) → standing o n t claims picks ≡ S → (v : L) × (label-of (cond (isSome (standing o n t claims picks)) (standing o n t claims picks) (fallback o n t claims)) ≡ Some v)
-      go None k = (most-some .0 .label, ap (λ S. label-of (cond (isSome S) S (fallback o n t claims))) k ∙ (ap (λ b. label-of (cond b (most-often o n t claims) None)) (le-leb _ _ h) ∙ ap label-of (most-some .1)))
+      go None k = (most-some .0 .label, ap (λ S. label-of (cond (isSome S) S (fallback o n t claims))) k ∙ (ap (λ b. label-of (cond b (most-often o n claims) None)) (le-leb _ _ h) ∙ ap label-of (most-some .1)))
       go (Some s) k = (s .label, ap (λ S. label-of (cond (isSome S) S (fallback o n t claims))) k)
 
 -- the choice looks at nothing but the rows of the n boards, and at the picks of phases that the claims name
@@ -143,35 +143,35 @@ module _ {L : Type 0} {o : Comparison L} (T : Total o) (n t f : ℕ) (claims cla
       standing-same : standing o n t claims picks ≡ standing o n t claims′ picks′
       standing-same = best-same (later o) (later o) _ _ n (λ s r. refl) (λ q l. ap (only (stands o n t claims picks)) (hc q l) ∙ only-same (claims′ q) (early q))
 
-      times-same : (u : L) → times o n t claims u ≡ times o n t claims′ u
+      times-same : (u : L) → times o n claims u ≡ times o n claims′ u
       times-same u = count-same _ _ n (λ q l. ap (has-label o u) (hc q l))
 
-      oftener-same : (s r : Slip L) → ahead (wins-often o) (λ s. times o n t claims (s .label)) s r ≡ ahead (wins-often o) (λ s. times o n t claims′ (s .label)) s r
+      oftener-same : (s r : Slip L) → ahead (wins-often o) (λ s. times o n claims (s .label)) s r ≡ ahead (wins-often o) (λ s. times o n claims′ (s .label)) s r
       oftener-same s r =
-          ap (λ k. ltb k (times o n t claims (s .label)) || (eqb k (times o n t claims (s .label)) && wins-often o (s .label) (r .label))) (times-same (r .label))
-          ∙ ap (λ k. ltb (times o n t claims′ (r .label)) k || (eqb (times o n t claims′ (r .label)) k && wins-often o (s .label) (r .label))) (times-same (s .label))
+          ap (λ k. ltb k (times o n claims (s .label)) || (eqb k (times o n claims (s .label)) && wins-often o (s .label) (r .label))) (times-same (r .label))
+          ∙ ap (λ k. ltb (times o n claims′ (r .label)) k || (eqb (times o n claims′ (r .label)) k && wins-often o (s .label) (r .label))) (times-same (s .label))
 
       fallback-same : fallback o n t claims ≡ fallback o n t claims′
       fallback-same =
-          ap (λ k. cond (leb (n - t) k) (most-often o n t claims) None) (count-same _ (λ q. unphased (claims′ q)) n (λ q l. ap unphased (hc q l)))
+          ap (λ k. cond (leb (n - t) k) (most-often o n claims) None) (count-same _ (λ q. unphased (claims′ q)) n (λ q l. ap unphased (hc q l)))
           ∙ ap (λ S. cond (leb (n - t) (count (λ q. unphased (claims′ q)) n)) S None) (best-same _ _ claims claims′ n oftener-same hc)
 
-module _ {L : Type 0} {o : Comparison L} (T : Total o) (n t k f : ℕ) (row : Row L) where
+module _ {L : Type 0} {o : Comparison L} (T : Total o) (n k f : ℕ) (row : Row L) where
   -- the label was heard often enough
-  pub enough-from : (v : L) → enough o n t k f row ≡ Some v → k ≤ count (λ q. is-slip o v f (row q)) n
+  pub enough-from : (v : L) → enough o n k f row ≡ Some v → k ≤ count (λ q. is-slip o v f (row q)) n
   unfolding enough
   enough-from v e =
       let p = label-from _ v e in
-      let b = best-from (later o) (λ q. only (heard-enough o n t k f row) (row q)) n (p .0) (p .1) in
-      let c = only-from (heard-enough o n t k f row) (row (b .0)) (p .0) (b .2) in
+      let b = best-from (later o) (λ q. only (heard-enough o n k f row) (row q)) n (p .0) (p .1) in
+      let c = only-from (heard-enough o n k f row) (row (b .0)) (p .0) (b .2) in
       let a = and-parts (eqb (p .0 .phase) f) (leb k (count (λ q. is-slip o (p .0 .label) f (row q)) n)) (c .1) in
       subst (λ u. k ≤ count (λ q. is-slip o u f (row q)) n) (p .2) (leb-true _ _ (a .1))
 
   -- some label was, where this one was
-  pub enough-some : (v : L) → 0 < k → k ≤ count (λ q. is-slip o v f (row q)) n → (w : L) × (enough o n t k f row ≡ Some w)
+  pub enough-some : (v : L) → 0 < k → k ≤ count (λ q. is-slip o v f (row q)) n → (w : L) × (enough o n k f row ≡ Some w)
   unfolding enough
   enough-some v pos h =
       let p = some-board (λ q. is-slip o v f (row q)) n (omega arith) in
       let e = is-true T v f (row (p .0)) (p .2) in
-      let b = best-some (later o) (λ q. only (heard-enough o n t k f row) (row q)) n (p .0) (slip v f) (p .1) (only-made (heard-enough o n t k f row) (row (p .0)) (slip v f) e (and-from (eqb f f) (leb k (count (λ q. is-slip o v f (row q)) n)) (eq-eqb f f refl) (le-leb _ _ h))) in
+      let b = best-some (later o) (λ q. only (heard-enough o n k f row) (row q)) n (p .0) (slip v f) (p .1) (only-made (heard-enough o n k f row) (row (p .0)) (slip v f) e (and-from (eqb f f) (leb k (count (λ q. is-slip o v f (row q)) n)) (eq-eqb f f refl) (le-leb _ _ h))) in
       (b .0 .label, ap label-of (b .1))

@@ -111,7 +111,7 @@ module _ {L : Type 0} (o : Comparison L) (T : Total o) where
       go : (e : Event L) → refusal s e ≡ None → at (change o s e .slots) q 9 ≡ Some r
       go (fit n t) h = let c = ltb-false 0 (s .boards) (none-fits (table s (fit n t)) h .0) in absurd (omega arith)
       go (propose p v) h = getD-set-other (s .slots) (10 * p + 0) (10 * q + 9) (Some (slip v 0)) None (omega arith) ∙ k
-      go (phase x i) h = let a = allowed s x i h .room in verdict-at o (s .boards) (s .faults) (s .phases + 1) x (s .slots) (omega arith) (omega arith) b q l ∙ ap (λ u. or-else u (with-phase (s .phases + 1) (enough o (s .boards) (s .faults) (2 * s .faults + 1) (s .phases + 1) (estimate-row o (s .boards) (s .faults) (s .phases + 1) x (s .slots) q)))) k
+      go (phase x i) h = let a = allowed s x i h .room in verdict-at o (s .boards) (s .faults) (s .phases + 1) x (s .slots) (omega arith) (omega arith) b q l ∙ ap (λ u. or-else u (with-phase (s .phases + 1) (enough o (s .boards) (2 * s .faults + 1) (s .phases + 1) (estimate-row o (s .boards) (s .faults) (s .phases + 1) x (s .slots) q)))) k
       go (verdict p) h = k
 
   kept-run : (s : State L) (h : List (Event L)) (q : ℕ) (r : Slip L) → Roomy s → q < s .boards → at (s .slots) q 9 ≡ Some r → at (run o s h .slots) q 9 ≡ Some r

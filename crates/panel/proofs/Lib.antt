@@ -8,3 +8,5 @@ pub mod Phases
 pub mod Histories
 pub mod Choosing
 pub mod Examples
+pub mod Told
+pub mod Loops

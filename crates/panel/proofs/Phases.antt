@@ -147,16 +147,16 @@ module _ {L : Type 0} (o : Comparison L) (n t f : ℕ) (x : Exchange (Slip L)) (
       ∙ (cond-false (eqb j 9) _ _ (ne-eqb j 9 (λ e. omega arith))
       ∙ (at-estimated q j lq (omega arith) ∙ (cond-false (eqb j 0) _ _ (ne-eqb j 0 (λ e. omega arith)) ∙ at-picked q j lq (omega arith))))
 
-  pub estimate-at : (q : ℕ) → q < n → at (decided o n t f x slots) q 0 ≡ or-else (with-phase f (enough o n t (n - t) f (pick-row o n t f x slots q))) (at slots q 0)
+  pub estimate-at : (q : ℕ) → q < n → at (decided o n t f x slots) q 0 ≡ or-else (with-phase f (enough o n (n - t) f (pick-row o n t f x slots q))) (at slots q 0)
   estimate-at q lq =
       at-decided q 0 lq (omega arith)
       ∙ (at-estimated q 0 lq (omega arith)
-      ∙ ap (or-else (with-phase f (enough o n t (n - t) f (pick-row o n t f x slots q)))) (picked-other q 0 lq (omega arith) (λ e. omega arith)))
+      ∙ ap (or-else (with-phase f (enough o n (n - t) f (pick-row o n t f x slots q)))) (picked-other q 0 lq (omega arith) (λ e. omega arith)))
 
-  pub verdict-at : (q : ℕ) → q < n → at (decided o n t f x slots) q 9 ≡ or-else (at slots q 9) (with-phase f (enough o n t (2 * t + 1) f (estimate-row o n t f x slots q)))
+  pub verdict-at : (q : ℕ) → q < n → at (decided o n t f x slots) q 9 ≡ or-else (at slots q 9) (with-phase f (enough o n (2 * t + 1) f (estimate-row o n t f x slots q)))
   verdict-at q lq =
       at-decided q 9 lq (omega arith)
-      ∙ ap (λ u. or-else u (with-phase f (enough o n t (2 * t + 1) f (estimate-row o n t f x slots q))))
+      ∙ ap (λ u. or-else u (with-phase f (enough o n (2 * t + 1) f (estimate-row o n t f x slots q))))
         (at-estimated q 9 lq (omega arith) ∙ picked-other q 9 lq (omega arith) (λ e. omega arith))
 
   pub pick-at : (q : ℕ) → q < n → at (decided o n t f x slots) q f ≡ new-pick o n t f x slots q

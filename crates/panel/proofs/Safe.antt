@@ -31,8 +31,8 @@ pub record Phase {L : Type 0} (o : Comparison L) (n t : ℕ) (bad : ℕ → Bool
   pub picks-faithful : (p q : ℕ) → Sound n bad p → Sound n bad q → (picks-heard p q ≡ new q f) ⊎ (picks-heard p q ≡ None)
   pub estimates-faithful : (p q : ℕ) → Sound n bad p → Sound n bad q → (estimates-heard p q ≡ new q 0) ⊎ (estimates-heard p q ≡ None)
   pub pick-is : (p : ℕ) → p < n → new p f ≡ with-phase f (choice o n t f (firm-heard p 0) (firm-heard p))
-  pub estimate-is : (p : ℕ) → p < n → new p 0 ≡ or-else (with-phase f (enough o n t (n - t) f (picks-heard p))) (old p 0)
-  pub verdict-is : (p : ℕ) → p < n → new p 9 ≡ or-else (old p 9) (with-phase f (enough o n t (2 * t + 1) f (estimates-heard p)))
+  pub estimate-is : (p : ℕ) → p < n → new p 0 ≡ or-else (with-phase f (enough o n (n - t) f (picks-heard p))) (old p 0)
+  pub verdict-is : (p : ℕ) → p < n → new p 9 ≡ or-else (old p 9) (with-phase f (enough o n (2 * t + 1) f (estimates-heard p)))
   pub other-is : (p k : ℕ) → p < n → 1 ≤ k → k < f → new p k ≡ old p k
 
 -- whether an estimate has label v and at least the number c
@@ -218,8 +218,8 @@ module _ {L : Type 0} {o : Comparison L} {n t : ℕ} {bad : ℕ → Bool} {F f :
   pub new-estimate : (p : ℕ) → Sound n bad p → (s : Slip L) → new p 0 ≡ Some s → (old p 0 ≡ Some s) ⊎ Set s
   new-estimate p fp s e = go (or-else-from _ _ s (sym (X .estimate-is p (fp .0)) ∙ e))
     where
-      go : (with-phase f (enough o n t (n - t) f (X .picks-heard p)) ≡ Some s) ⊎ ((with-phase f (enough o n t (n - t) f (X .picks-heard p)) ≡ None) × (old p 0 ≡ Some s)) → (old p 0 ≡ Some s) ⊎ Set s
-      go (inl h) = let k = phased-from f _ s h in inr (k .1, set-quorum p fp (s .label) (enough-from (X .total) n t (n - t) f (X .picks-heard p) (s .label) (k .0)))
+      go : (with-phase f (enough o n (n - t) f (X .picks-heard p)) ≡ Some s) ⊎ ((with-phase f (enough o n (n - t) f (X .picks-heard p)) ≡ None) × (old p 0 ≡ Some s)) → (old p 0 ≡ Some s) ⊎ Set s
+      go (inl h) = let k = phased-from f _ s h in inr (k .1, set-quorum p fp (s .label) (enough-from (X .total) n (n - t) f (X .picks-heard p) (s .label) (k .0)))
       go (inr h) = inl (h .1)
 
   -- a quorum of an earlier phase is still there
@@ -251,11 +251,11 @@ module _ {L : Type 0} {o : Comparison L} {n t : ℕ} {bad : ℕ → Bool} {F f :
       kept = kept;
     }
       where
-        held : (q : ℕ) → Sound n bad q → ((s : Slip L) × (old q 0 ≡ Some s) × (s .label ≡ v) × (c ≤ s .phase)) → (x : Option L) → enough o n t (n - t) f (X .picks-heard q) ≡ x → keeps-to o v c (new q 0) ≡ true
+        held : (q : ℕ) → Sound n bad q → ((s : Slip L) × (old q 0 ≡ Some s) × (s .label ≡ v) × (c ≤ s .phase)) → (x : Option L) → enough o n (n - t) f (X .picks-heard q) ≡ x → keeps-to o v c (new q 0) ≡ true
         held q fq h None k = keeps-made (X .total) v c (new q 0) (h .0) (X .estimate-is q (fq .0) ∙ (ap (λ u. or-else (with-phase f u) (old q 0)) k ∙ h .1)) (h .2) (h .3)
         held q fq h (Some w) k =
             let e : new q 0 ≡ Some (slip w f) = X .estimate-is q (fq .0) ∙ ap (λ u. or-else (with-phase f u) (old q 0)) k in
-            let Q = set-quorum q fq w (enough-from (X .total) n t (n - t) f (X .picks-heard q) w k) in
+            let Q = set-quorum q fq w (enough-from (X .total) n (n - t) f (X .picks-heard q) w k) in
             let r = quorum-sound new w f Q in
             let nx = X .next in
             keeps-made (X .total) v c (new q 0) (slip w f) e (locked-pick v c K (r .0) (r .1) (slip w f) (r .2)) (omega arith)
@@ -309,11 +309,11 @@ module _ {L : Type 0} {o : Comparison L} {n t : ℕ} {bad : ℕ → Bool} {F f :
     pub new-verdict : (p : ℕ) → Sound n bad p → (s : Slip L) → new p 9 ≡ Some s → (old p 9 ≡ Some s) ⊎ Taken s
     new-verdict p fp s e = go (or-else-from _ _ s (sym (X .verdict-is p (fp .0)) ∙ e))
       where
-        go : (old p 9 ≡ Some s) ⊎ ((old p 9 ≡ None) × (with-phase f (enough o n t (2 * t + 1) f (X .estimates-heard p)) ≡ Some s)) → (old p 9 ≡ Some s) ⊎ Taken s
+        go : (old p 9 ≡ Some s) ⊎ ((old p 9 ≡ None) × (with-phase f (enough o n (2 * t + 1) f (X .estimates-heard p)) ≡ Some s)) → (old p 9 ≡ Some s) ⊎ Taken s
         go (inl h) = inl h
         go (inr h) =
             let k = phased-from f _ s (h .1) in
-            let c = enough-from (X .total) n t (2 * t + 1) f (X .estimates-heard p) (s .label) (k .0) in
+            let c = enough-from (X .total) n (2 * t + 1) f (X .estimates-heard p) (s .label) (k .0) in
             inr (k .1, taken-lock p fp (s .label) c, taken-quorum p fp (s .label) c)
 
     -- a verdict taken now is the one that an earlier verdict locked

@@ -183,8 +183,8 @@ module _ {L : Type 0} {o : Comparison L} {n t : ℕ} {bad : ℕ → Bool} {F f :
       estimated p fp =
           let many = X .many in
           let a = most-pass (λ q. is-slip o v f (X .picks-heard p q)) (λ q fq. is-made (X .total) v f _ (G .picks-all p q fp fq ∙ picked q fq)) in
-          let w = enough-some (X .total) n t (n - t) f (X .picks-heard p) v (omega arith) (omega arith) in
-          let c = enough-from (X .total) n t (n - t) f (X .picks-heard p) (w .0) (w .1) in
+          let w = enough-some (X .total) n (n - t) f (X .picks-heard p) v (omega arith) (omega arith) in
+          let c = enough-from (X .total) n (n - t) f (X .picks-heard p) (w .0) (w .1) in
           let r = sound-among X (λ q. is-slip o (w .0) f (X .picks-heard p q)) (omega arith) in
           let e : Some (slip (w .0) f) ≡ Some (slip v f) = sym (is-true (X .total) (w .0) f (X .picks-heard p (r .0)) (r .2)) ∙ (G .picks-all p (r .0) fp (r .1) ∙ picked (r .0) (r .1)) in
           X .estimate-is p (fp .0) ∙ (ap (λ u. or-else (with-phase f u) (old p 0)) (w .1) ∙ e)
@@ -193,7 +193,7 @@ module _ {L : Type 0} {o : Comparison L} {n t : ℕ} {bad : ℕ → Bool} {F f :
       decided p fp =
           let many = X .many in
           let a = most-pass (λ q. is-slip o v f (X .estimates-heard p q)) (λ q fq. is-made (X .total) v f _ (G .estimates-all p q fp fq ∙ estimated q fq)) in
-          let w = enough-some (X .total) n t (2 * t + 1) f (X .estimates-heard p) v (omega arith) (omega arith) in
+          let w = enough-some (X .total) n (2 * t + 1) f (X .estimates-heard p) v (omega arith) (omega arith) in
           either (old p 9) (w .0) (X .verdict-is p (fp .0) ∙ ap (λ u. or-else (old p 9) (with-phase f u)) (w .1))
         where
           either : (x : Slot L) (w : L) → new p 9 ≡ or-else x (Some (slip w f)) → (s : Slip L) × (new p 9 ≡ Some s)

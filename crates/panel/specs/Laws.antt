@@ -49,11 +49,11 @@ module _ {L : Type 0} (o : Comparison L) (n t f : ℕ) (claims : Row L) (picks :
     pub none : ((r : Slip L) → Stands r → ⊥) → (Open → ⊥) → choice o n t f claims picks ≡ None
 
 -- the smallest label that was heard with number f at least k times
-pub record Smallest {L : Type 0} (o : Comparison L) (n t k f : ℕ) (row : Row L) : Type 0 where
-  pub some : (v : L) → Many k n (λ q. row q ≡ Some (record { label = v; phase = f })) → ((w : L) → o w v ≡ Less → Many k n (λ q. row q ≡ Some (record { label = w; phase = f })) → ⊥) → enough o n t k f row ≡ Some v
-  pub none : ((w : L) → Many k n (λ q. row q ≡ Some (record { label = w; phase = f })) → ⊥) → enough o n t k f row ≡ None
+pub record Smallest {L : Type 0} (o : Comparison L) (n k f : ℕ) (row : Row L) : Type 0 where
+  pub some : (v : L) → Many k n (λ q. row q ≡ Some (record { label = v; phase = f })) → ((w : L) → o w v ≡ Less → Many k n (λ q. row q ≡ Some (record { label = w; phase = f })) → ⊥) → enough o n k f row ≡ Some v
+  pub none : ((w : L) → Many k n (λ q. row q ≡ Some (record { label = w; phase = f })) → ⊥) → enough o n k f row ≡ None
 
 -- both, for any rows
 pub record Laws {L : Type 0} (o : Comparison L) : Type 0 where
   pub chooses : (n t f : ℕ) (claims : Row L) (picks : ℕ → Row L) → Chooses o n t f claims picks
-  pub smallest : (n t k f : ℕ) (row : Row L) → 1 ≤ k → Smallest o n t k f row
+  pub smallest : (n k f : ℕ) (row : Row L) → 1 ≤ k → Smallest o n k f row

@@ -62,7 +62,7 @@ module _ {L : Type 0} (o : Comparison L) (n t f : ℕ) (x : Exchange (Slip L)) (
 
   -- an estimate is kept where no pick was heard from enough boards
   abbrev pub new-estimate : ℕ → Slot L
-  new-estimate p = or-else (with-phase f (enough o n t (n - t) f (pick-row p))) (at picked p estimate-place)
+  new-estimate p = or-else (with-phase f (enough o n (n - t) f (pick-row p))) (at picked p estimate-place)
 
   unfoldable pub estimated : List (Slot L)
   estimated = put estimate-place new-estimate picked n
@@ -72,7 +72,7 @@ module _ {L : Type 0} (o : Comparison L) (n t f : ℕ) (x : Exchange (Slip L)) (
 
   -- a verdict is kept for good
   abbrev pub new-verdict : ℕ → Slot L
-  new-verdict p = or-else (at estimated p verdict-place) (with-phase f (enough o n t (2 * t + 1) f (estimate-row p)))
+  new-verdict p = or-else (at estimated p verdict-place) (with-phase f (enough o n (2 * t + 1) f (estimate-row p)))
 
   unfoldable pub decided : List (Slot L)
   decided = put verdict-place new-verdict estimated n

@@ -60,6 +60,25 @@ module _ {L : Type 0} (o : Comparison L) where
   abbrev pub wins-often : L → L → Bool
   wins-often = smaller o
 
+module _ {L : Type 0} (o : Comparison L) (n : ℕ) where
+  abbrev pub times : Row L → L → ℕ
+  times row v = count (λ q. has-label o v (row q)) n
+
+  -- a claim of the label heard most often
+  abbrev pub most-often : Row L → Slot L
+  most-often claims = best (ahead (wins-often o) (λ s. times claims (s .label))) claims n
+
+  abbrev pub heard-enough : ℕ → ℕ → Row L → Slip L → Bool
+  heard-enough k f row s = eqb (s .phase) f && leb k (count (λ q. is-slip o (s .label) f (row q)) n)
+
+  -- the slip of the smallest label v such that (v, f) was heard at least k times
+  abbrev pub best-heard : ℕ → ℕ → Row L → Slot L
+  best-heard k f row = best (later o) (λ q. only (heard-enough k f row) (row q)) n
+
+  -- that label
+  unfoldable pub enough : ℕ → ℕ → Row L → Option L
+  enough k f row = label-of (best-heard k f row)
+
 module _ {L : Type 0} (o : Comparison L) (n t : ℕ) where
   -- a claim stands on the claims and on the picks of its phase
   abbrev pub stands : Row L → (ℕ → Row L) → Slip L → Bool
@@ -69,15 +88,8 @@ module _ {L : Type 0} (o : Comparison L) (n t : ℕ) where
   abbrev pub standing : Row L → (ℕ → Row L) → Slot L
   standing claims picks = best (later o) (λ q. only (stands claims picks) (claims q)) n
 
-  abbrev pub times : Row L → L → ℕ
-  times row v = count (λ q. has-label o v (row q)) n
-
-  -- a claim of the label heard most often
-  abbrev pub most-often : Row L → Slot L
-  most-often claims = best (ahead (wins-often o) (λ s. times claims (s .label))) claims n
-
   abbrev pub fallback : Row L → Slot L
-  fallback claims = cond (leb (n - t) (count (λ q. unphased (claims q)) n)) (most-often claims) None
+  fallback claims = cond (leb (n - t) (count (λ q. unphased (claims q)) n)) (most-often o n claims) None
 
   -- the choice, from claims and picks of which some already count as silence
   abbrev pub choice-of : Row L → (ℕ → Row L) → Option L
@@ -86,10 +98,3 @@ module _ {L : Type 0} (o : Comparison L) (n t : ℕ) where
   -- the choice of phase f
   unfoldable pub choice : ℕ → Row L → (ℕ → Row L) → Option L
   choice f claims picks = choice-of (λ q. as-claim f (claims q)) (λ g q. as-pick g (picks g q))
-
-  abbrev pub heard-enough : ℕ → ℕ → Row L → Slip L → Bool
-  heard-enough k f row s = eqb (s .phase) f && leb k (count (λ q. is-slip o (s .label) f (row q)) n)
-
-  -- the smallest label v such that (v, f) was heard at least k times
-  unfoldable pub enough : ℕ → ℕ → Row L → Option L
-  enough k f row = label-of (best (later o) (λ q. only (heard-enough k f row) (row q)) n)

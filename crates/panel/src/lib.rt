@@ -1,5 +1,7 @@
 // Agreement of boards on a label.
+mod counting;
 mod held;
+mod memory;
 mod size;
 mod vote;
 
