@@ -172,16 +172,16 @@ module _ {L : Type 0} (o : Comparison L) (n t f : ℕ) (x : Exchange (Slip L)) (
   estimated-at q lq = sym (at-decided q 0 lq (omega arith))
 
   -- the first exchanges
-  pub firsts-sized : (g : ℕ) → All-sized n (firsts o n t f x slots g)
+  pub firsts-sized : (g : ℕ) → All-sized n (firsts n slots g)
   firsts-sized zero = tt
-  firsts-sized (suc g) = sized-append n (firsts o n t f x slots g) (firm (column n slots g)) (firsts-sized g) (column-length n slots g)
+  firsts-sized (suc g) = sized-append n (firsts n slots g) (firm (column n slots g)) (firsts-sized g) (column-length n slots g)
 
-  pub round-firsts : (F r g : ℕ) → r + g * F ≤ last-round → round-after F r (firsts o n t f x slots g) ≡ r + g * F
+  pub round-firsts : (F r g : ℕ) → r + g * F ≤ last-round → round-after F r (firsts n slots g) ≡ r + g * F
   round-firsts F r zero h = let z = zero-mul F in omega arith
   round-firsts F r (suc g) h =
       let m = suc-mul g F in
-      let i : round-after F r (firsts o n t f x slots g) ≡ r + g * F = round-firsts F r g (omega arith) in
-      round-append F r (firsts o n t f x slots g) (firm (column n slots g) ∷ [])
+      let i : round-after F r (firsts n slots g) ≡ r + g * F = round-firsts F r g (omega arith) in
+      round-append F r (firsts n slots g) (firm (column n slots g) ∷ [])
       ∙ (ap (λ u. round-on F u (firm (column n slots g))) i
       ∙ (cond-true (leb (r + g * F + F) last-round) (r + g * F + F) (r + g * F) (le-leb (r + g * F + F) last-round (omega arith)) ∙ omega arith))
 
@@ -196,7 +196,7 @@ module _ {L : Type 0} {o : Comparison L} (T : Total o) (n t F : ℕ) (x : Exchan
   late = omega arith
 
   abbrev firm-list : ℕ → List (Ask (Slip L))
-  firm-list = firsts o n t f x slots
+  firm-list = firsts n slots
 
   abbrev plain-picks : Ask (Slip L)
   plain-picks = plain (column n (picked o n t f x slots) f)

@@ -3,6 +3,7 @@ pub mod Phase
 pub mod Laws
 pub mod Votes
 pub mod Panel
+pub mod Steps
 pub mod Settled
 pub mod Worked
 pub mod Modelled

@@ -40,16 +40,16 @@ abbrev pub put : {L : Type 0} → ℕ → (ℕ → Slot L) → List (Slot L) →
 put k c slots zero = slots
 put k c slots (suc q) = set (put k c slots q) (10 * q + k) (c q)
 
--- Phase f of n boards over an exchange. The estimates stand at place 0 and the picks of g at place g, so the firm exchange number g sends place g.
-module _ {L : Type 0} (o : Comparison L) (n t f : ℕ) (x : Exchange (Slip L)) (slots : List (Slot L)) where
-  -- the first g firm exchanges
-  abbrev pub firsts : ℕ → List (Ask (Slip L))
-  firsts zero = []
-  firsts (suc g) = firsts g ++ (firm (column n slots g) ∷ [])
+-- the first g firm exchanges of a phase: number 0 sends the estimates, and number k the picks of phase k
+abbrev pub firsts : {L : Type 0} → ℕ → List (Slot L) → ℕ → List (Ask (Slip L))
+firsts n slots zero = []
+firsts n slots (suc g) = firsts n slots g ++ (firm (column n slots g) ∷ [])
 
+-- Phase f of n boards over an exchange.
+module _ {L : Type 0} (o : Comparison L) (n t f : ℕ) (x : Exchange (Slip L)) (slots : List (Slot L)) where
   -- what board p heard in firm exchange g
   abbrev pub firm-row : ℕ → ℕ → Row L
-  firm-row p g q = heard n (x .fills (firsts g) (firm (column n slots g))) p q
+  firm-row p g q = heard n (x .fills (firsts n slots g) (firm (column n slots g))) p q
 
   abbrev pub new-pick : ℕ → Slot L
   new-pick p = with-phase f (choice o n t f (firm-row p 0) (firm-row p))
@@ -58,7 +58,7 @@ module _ {L : Type 0} (o : Comparison L) (n t f : ℕ) (x : Exchange (Slip L)) (
   picked = put f new-pick slots n
 
   abbrev pub pick-row : ℕ → Row L
-  pick-row p q = heard n (x .fills (firsts f) (plain (column n picked f))) p q
+  pick-row p q = heard n (x .fills (firsts n slots f) (plain (column n picked f))) p q
 
   -- an estimate is kept where no pick was heard from enough boards
   abbrev pub new-estimate : ℕ → Slot L
@@ -68,7 +68,7 @@ module _ {L : Type 0} (o : Comparison L) (n t f : ℕ) (x : Exchange (Slip L)) (
   estimated = put estimate-place new-estimate picked n
 
   abbrev pub estimate-row : ℕ → Row L
-  estimate-row p q = heard n (x .fills (firsts f ++ (plain (column n picked f) ∷ [])) (plain (column n estimated estimate-place))) p q
+  estimate-row p q = heard n (x .fills (firsts n slots f ++ (plain (column n picked f) ∷ [])) (plain (column n estimated estimate-place))) p q
 
   -- a verdict is kept for good
   abbrev pub new-verdict : ℕ → Slot L
@@ -79,7 +79,7 @@ module _ {L : Type 0} (o : Comparison L) (n t f : ℕ) (x : Exchange (Slip L)) (
 
   -- the exchanges of the phase, in order
   unfoldable pub asks : List (Ask (Slip L))
-  asks = firsts f ++ (plain (column n picked f) ∷ plain (column n estimated estimate-place) ∷ [])
+  asks = firsts n slots f ++ (plain (column n picked f) ∷ plain (column n estimated estimate-place) ∷ [])
 
 -- the same exchange after a list of exchanges
 abbrev pub after-asks : {I : Type 0} → Exchange I → List (Ask I) → Exchange I

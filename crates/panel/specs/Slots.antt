@@ -5,6 +5,7 @@ use lib.Dec.{eqb}
 use Rattle.std.specs.declared.option.Option.{Option}
 use Rattle.std.specs.declared.option.Option.the-variants.{Some, None}
 use Rattle.std.specs.declared.cmp.Ordering.{Ordering}
+use Rattle.std.specs.Options.{orOther}
 use Rattle.std.specs.Orderings.{isEq, isLt}
 use Rattle.labels.specs.declared.slip.Slip.{Slip}
 
@@ -40,5 +41,4 @@ label-of (Some s) = Some (s .label)
 
 -- the first slot, or the second where the first is silent
 abbrev pub or-else : {L : Type 0} → Slot L → Slot L → Slot L
-or-else None b = b
-or-else (Some s) b = Some s
+or-else a b = orOther a b

@@ -1,7 +1,7 @@
 -- What a heard slot is counted for.
 use mathlib.Core.Bool.{Bool}
 use mathlib.Core.List.{List}
-use Prim.Native.Nat.{ℕ, _+_, _-_, _*_}
+use Prim.Native.Nat.{ℕ, _+_, _*_}
 use lib.ListN.{getD}
 use Rattle.std.specs.declared.option.Option.the-variants.{None}
 use Rattle.panel.specs.declared.vote.Vote.{Vote}
@@ -19,6 +19,6 @@ passes o Proposes x = unphased x
 abbrev pub row-at : {L : Type 0} → List (Slot L) → ℕ → Row L
 row-at h start q = getD h (start + q) None
 
--- the picks of phase c that board p heard, where the picks of each phase from 1 on are n rows of n
-abbrev pub picks-at : {L : Type 0} → ℕ → ℕ → List (Slot L) → ℕ → Row L
-picks-at n p h c = row-at h ((c - 1) * (n * n) + p * n)
+-- what board p heard in firm exchange c, where each fills a block of n rows of n
+abbrev pub block-row : {L : Type 0} → ℕ → ℕ → List (Slot L) → ℕ → Row L
+block-row n p h c = row-at h (c * (n * n) + p * n)

@@ -2,9 +2,8 @@
 ghost use mathlib.Core.Path.{_≡_};
 ghost use Prim.Native.Nat.{_<_, _≤_, _+_, _*_, _^_};
 ghost use Rattle.exchanges.specs.Boards.{count};
-ghost use Rattle.panel.specs.Slots.{with-phase};
 ghost use Rattle.panel.specs.Phase.{ahead, wins-often, later, better, only, times, most-often, stands, standing, choice-of, heard-enough, best-heard};
-ghost use Rattle.panel.specs.Votes.{passes, row-at, picks-at};
+ghost use Rattle.panel.specs.Votes.{passes, row-at, block-row};
 use crate::memory::slot_at;
 use crate::vote::Vote;
 use labels::order::Ordered;
@@ -144,4 +143,75 @@ pub(crate) fn heard_often<L: Ordered>(
         top = later_of(slot, top);
     }
     top
+}
+
+// Whether a claim of board p's row stands, by the claims and by the picks of its phase. The blocks
+// hold what was heard of the claims, and of the picks of each phase.
+fn stands_up<L: Ordered>(n: usize, t: usize, blocks: &[Option<Slip<L>>], p: usize, s: Slip<L>) -> bool
+    requires small { ⌜ n ≤ 7 ⌝ }
+    requires fewer { ⌜ t ≤ n ⌝ }
+    requires within { ⌜ p < n ⌝ }
+    ensures { λ r. ⌜ r ≡ stands order n t (row-at (now (blocks .entry)) (p * n)) (block-row n p (now (blocks .entry))) s ⌝ }
+{
+    if s.phase == 0 {
+        return false;
+    }
+    if votes(blocks, p * n, n, Vote::Backs(s.label, s.phase)) < n - t {
+        return false;
+    }
+    let start = s.phase as usize * (n * n) + p * n;
+    t + 1 <= votes(blocks, start, n, Vote::Matches(s.label, s.phase))
+}
+
+// A slot, if it is a claim that stands.
+fn if_standing<L: Ordered>(
+    n: usize,
+    t: usize,
+    blocks: &[Option<Slip<L>>],
+    p: usize,
+    slot: Option<Slip<L>>,
+) -> Option<Slip<L>>
+    requires small { ⌜ n ≤ 7 ⌝ }
+    requires fewer { ⌜ t ≤ n ⌝ }
+    requires within { ⌜ p < n ⌝ }
+    ensures { λ r. ⌜ r ≡ only (stands order n t (row-at (now (blocks .entry)) (p * n)) (block-row n p (now (blocks .entry)))) slot ⌝ }
+{
+    let Some(s) = slot else {
+        return None;
+    };
+    if stands_up(n, t, blocks, p, s) { Some(s) } else { None }
+}
+
+// The standing claim of the greatest number, with the smallest label there.
+fn best_standing<L: Ordered>(n: usize, t: usize, blocks: &[Option<Slip<L>>], p: usize) -> Option<Slip<L>>
+    requires small { ⌜ n ≤ 7 ⌝ }
+    requires fewer { ⌜ t ≤ n ⌝ }
+    requires within { ⌜ p < n ⌝ }
+    ensures { λ r. ⌜ r ≡ standing order n t (row-at (now (blocks .entry)) (p * n)) (block-row n p (now (blocks .entry))) ⌝ }
+{
+    let mut top = None;
+    for q in 0..n {
+        let slot = if_standing(n, t, blocks, p, slot_at(blocks, p * n + q));
+        top = later_of(slot, top);
+    }
+    top
+}
+
+// The label that board p chooses.
+pub(crate) fn choose<L: Ordered>(n: usize, t: usize, blocks: &[Option<Slip<L>>], p: usize) -> Option<L>
+    requires small { ⌜ n ≤ 7 ⌝ }
+    requires fewer { ⌜ t ≤ n ⌝ }
+    requires within { ⌜ p < n ⌝ }
+    ensures { λ r. ⌜ r ≡ choice-of order n t (row-at (now (blocks .entry)) (p * n)) (block-row n p (now (blocks .entry))) ⌝ }
+{
+    if let Some(s) = best_standing(n, t, blocks, p) {
+        return Some(s.label);
+    }
+    if votes(blocks, p * n, n, Vote::Proposes) < n - t {
+        return None;
+    }
+    match most_common(blocks, p * n, n) {
+        Some(s) => Some(s.label),
+        None => None,
+    }
 }

@@ -3,6 +3,7 @@ mod counting;
 mod held;
 mod memory;
 mod size;
+mod steps;
 mod vote;
 
 pub use held::Panel;

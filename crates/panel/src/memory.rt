@@ -2,7 +2,7 @@
 ghost use mathlib.Core.Path.{_≡_};
 ghost use mathlib.Core.List.{map, _++_};
 ghost use Prim.Native.Nat.{_≤_, _*_};
-ghost use lib.ListN.{length, getD, set, replicate, drop};
+ghost use lib.ListN.{length, getD, set, replicate, take, drop};
 ghost use Rattle.std.specs.declared.option.Option.the-variants.{None};
 ghost use Rattle.panel.specs.Phase.{as-claim};
 ghost use Rattle.panel.specs.Panel.{column};
@@ -57,17 +57,19 @@ pub(crate) fn keep_claims<L: Copy>(heard: &mut [Option<Slip<L>>], phase: u8)
     }
 }
 
-// Copies what the first boards hold at one place.
+// Copies what n boards hold at one place to the first n slots.
 pub(crate) fn copy_column<L: Copy>(
     slots: &[Option<Slip<L>>],
     place: usize,
+    n: usize,
     sent: &mut [Option<Slip<L>>],
 )
-    requires small { ⌜ length (now sent) ≤ 7 ⌝ }
+    requires small { ⌜ n ≤ 7 ⌝ }
     requires inside { ⌜ place ≤ 9 ⌝ }
-    ensures { λ _. ⌜ now (sent .exit) ≡ column (length (now (sent .entry))) (now (slots .entry)) place ⌝ }
+    requires room { ⌜ n ≤ length (now sent) ⌝ }
+    ensures { λ _. ⌜ take n (now (sent .exit)) ≡ column n (now (slots .entry)) place ⌝ }
 {
-    for q in 0..sent.len() {
-        sent[q] = slot_at(slots, 10 * q + place);
+    for q in 0..n {
+        put_slot(sent, q, slot_at(slots, 10 * q + place));
     }
 }
