@@ -5,6 +5,8 @@ pub mod Chosen
 pub mod Safe
 pub mod Sure
 pub mod Phases
+pub mod Hearing
+pub mod Running
 pub mod Histories
 pub mod Choosing
 pub mod Examples
