@@ -1,6 +1,7 @@
 // The counts of one board over what it heard, and the choice that they lead to.
 ghost use mathlib.Core.Path.{_≡_};
 ghost use Prim.Native.Nat.{_<_, _≤_, _+_, _*_, _^_};
+ghost use Rattle.std.specs.declared.option.Option.the-variants.{Some};
 ghost use Rattle.exchanges.specs.Boards.{count};
 ghost use Rattle.panel.specs.Phase.{ahead, wins-often, later, better, only, times, most-often, stands, standing, choice-of, heard-enough, best-heard};
 ghost use Rattle.panel.specs.Votes.{passes, row-at, block-row};
@@ -9,18 +10,25 @@ use crate::vote::Vote;
 use labels::order::Ordered;
 use labels::slip::Slip;
 
-// Whether a heard slot counts; silence never does.
-fn counts_for<L: Ordered>(vote: Vote<L>, slot: Option<Slip<L>>) -> bool
-    ensures { λ r. ⌜ r ≡ passes order vote slot ⌝ }
+// Whether a heard slip counts.
+fn counts_slip<L: Ordered>(vote: Vote<L>, s: Slip<L>) -> bool
+    ensures { λ r. ⌜ r ≡ passes order vote (Some s) ⌝ }
 {
-    let Some(s) = slot else {
-        return false;
-    };
     match vote {
         Vote::Backs(label, phase) => label.is_equal(s.label) || s.phase < phase,
         Vote::Matches(label, phase) => label.is_equal(s.label) && s.phase == phase,
         Vote::Says(label) => label.is_equal(s.label),
         Vote::Proposes => s.phase == 0,
+    }
+}
+
+// Whether a heard slot counts; silence never does.
+fn counts_for<L: Ordered>(vote: Vote<L>, slot: Option<Slip<L>>) -> bool
+    ensures { λ r. ⌜ r ≡ passes order vote slot ⌝ }
+{
+    match slot {
+        None => false,
+        Some(s) => counts_slip(vote, s),
     }
 }
 
