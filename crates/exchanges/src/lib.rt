@@ -2,7 +2,8 @@
 pub mod backplane;
 pub mod cut_lines;
 pub mod exchange;
-mod maps;
+pub mod fitting;
+pub mod maps;
 mod path;
 mod plain;
 mod rounds;

@@ -2,22 +2,13 @@
 ghost use mathlib.Core.Path.{_≡_};
 ghost use Prim.Native.Nat.{_+_, _*_, _<_, _≤_};
 ghost use lib.ListN.{length};
-ghost use Rattle.exchanges.specs.Boards.{fits, most-boards};
+ghost use Rattle.exchanges.specs.Boards.{most-boards};
 ghost use Rattle.exchanges.specs.Asked.{due, short};
 ghost use Rattle.exchanges.specs.Plain.{plain-run, to-each, from-each};
 ghost use Rattle.exchanges.specs.Ran.{row-of, heard-at, Ran};
 use crate::backplane::Backplane;
+use crate::fitting::fits_counts;
 use labels::refusal::Refusal;
-
-// the most boards that there may be
-pub(crate) const MOST_BOARDS: u8 = 7;
-
-// Whether so many boards serve where so many of them may be bad.
-pub(crate) fn fits_counts(boards: u8, faults: u8) -> bool
-    ensures { λ r. ⌜ r ≡ fits boards faults ⌝ }
-{
-    0 < boards && boards <= MOST_BOARDS && 3 * u16::from(faults) < u16::from(boards)
-}
 
 // Whether what is sent or heard has too few places.
 pub(crate) fn too_short<I>(boards: u8, sent: &[Option<I>], heard: &[Option<I>]) -> bool

@@ -5,4 +5,4 @@ use Rattle.panel.specs.Worked.{Worked}
 
 pub right : Worked
 unfolding choice
-right = (refl, (refl, (refl, (refl, (refl, (refl, (refl, (refl, (refl, (refl, (refl, tt)))))))))))
+right = (refl, (refl, (refl, (refl, (refl, (refl, (refl, (refl, (refl, (refl, (refl, (refl, (refl, tt)))))))))))))

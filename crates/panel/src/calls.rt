@@ -5,7 +5,7 @@ ghost use lib.Dec.{ltb};
 ghost use lib.ListN.{length, getD};
 ghost use Rattle.std.specs.Options.{isSome};
 ghost use Rattle.std.specs.declared.option.Option.the-variants.{None};
-ghost use Rattle.exchanges.specs.Boards.{count, fits};
+ghost use Rattle.exchanges.specs.Boards.{count};
 ghost use Rattle.exchanges.specs.Plane.{last-round};
 ghost use Rattle.exchanges.specs.Asked.{Kept};
 ghost use Rattle.panel.specs.Slots.{label-of};
@@ -23,6 +23,7 @@ use crate::steps::ESTIMATE;
 use crate::steps::VERDICT;
 use crate::steps::run_phase;
 use exchanges::exchange::Exchange;
+use exchanges::fitting::fits_counts;
 use labels::order::Ordered;
 use labels::refusal::Refusal;
 use labels::slip::Slip;
@@ -31,13 +32,6 @@ use labels::slip::Slip;
 const PHASES: u8 = 8;
 
 const LAST_ROUND: usize = 65_535;
-
-// Whether n boards serve where t of them may be bad.
-fn counts_fit(n: u8, t: u8) -> bool
-    ensures { λ r. ⌜ r ≡ fits n t ⌝ }
-{
-    0 < n && n <= 7 && 3 * (t as usize) < n as usize
-}
 
 // How many of the first boards have an estimate.
 fn proposals<L: Copy>(slots: &[Option<Slip<L>>], n: usize) -> usize
@@ -89,7 +83,7 @@ impl<'a, L: Ordered> Panel<'a, L> {
         if self.size.is_some() {
             return Err(Refusal::AlreadyFitted);
         }
-        if !counts_fit(n, t) {
+        if !fits_counts(n, t) {
             return Err(Refusal::BadCounts);
         }
         if self.slots.len() < 10 * n as usize {
