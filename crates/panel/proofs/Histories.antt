@@ -18,7 +18,7 @@ use Rattle.panel.specs.Slots.{Comparison, Slot, with-phase, or-else}
 use Rattle.labels.specs.declared.slip.Slip.{Slip}
 use Rattle.panel.specs.Phase.{enough}
 use Rattle.panel.specs.Panel.{State, at, Event, Lengths, fit, propose, phase, verdict, new, estimate-row, phased, table, refusal, change, step, run, after}
-use Rattle.panel.specs.Settled.{Seals, Holds, Proposed, Trusty, Fair, Good, Settled}
+use Rattle.panel.specs.Settled.{Holds-slip, Holds, Proposed, Sound-in, Fair, Good, Settled}
 use Rattle.panel.proofs.Counts.{some-board}
 use Rattle.panel.proofs.Slips.{slip, none≢some, some-inj}
 use Rattle.panel.proofs.Safe.{Safe, Valid, safe-on, keeper, keeps-to}
@@ -119,7 +119,7 @@ module _ {L : Type 0} (o : Comparison L) (T : Total o) where
       let n = boards-step s e (s .boards) (omega arith) refl in
       kept-run (step o s e) h q r (room-step s e b) (omega arith) (kept-step s e q r b l k)
 
-  pub lasting : (m : List (Slot L)) (h more : List (Event L)) (q : ℕ) (r : Slip L) → Seals o m h q r → Seals o m (h ++ more) q r
+  pub lasting : (m : List (Slot L)) (h more : List (Event L)) (q : ℕ) (r : Slip L) → Holds-slip o m h q r → Holds-slip o m (h ++ more) q r
   lasting m h more q r e =
       let l : q < after o m h .boards = e .0 in
       let k = kept-run (after o m h) more q r (room m h) l (e .1) in
@@ -234,11 +234,11 @@ module _ {L : Type 0} (o : Comparison L) (T : Total o) where
     pub sane : (h : List (Event L)) → Fair o m bad h → Sane bad (after o m h)
     sane h F = history o m (Sane bad) h sane-new (λ h₂ e h₃ k S. sane-step bad (after o m h₂) e S (trusted h h₂ e h₃ F k))
 
-    pub agreement : (h : List (Event L)) → Fair o m bad h → (p q : ℕ) (v w : L) → Trusty o m bad h p → Trusty o m bad h q → Holds o m h p v → Holds o m h q w → v ≡ w
+    pub agreement : (h : List (Event L)) → Fair o m bad h → (p q : ℕ) (v w : L) → Sound-in o m bad h p → Sound-in o m bad h q → Holds o m h p v → Holds o m h q w → v ≡ w
     agreement h F p q v w fp fq a b = sym (a .2) ∙ (sane h F .safe .agreed p q fp fq (a .0) (b .0) (a .1 .1) (b .1 .1) ∙ b .2)
 
     -- a phase without losses after h
-    pub termination : (h : List (Event L)) (x : Exchange (Slip L)) (l : Lengths) → Fair o m bad (h ++ (phase x l ∷ [])) → refusal (after o m h) (phase x l) ≡ None → Good o m h x → (q : ℕ) → Trusty o m bad (h ++ (phase x l ∷ [])) q → (v : L) × Holds o m (h ++ (phase x l ∷ [])) q v
+    pub termination : (h : List (Event L)) (x : Exchange (Slip L)) (l : Lengths) → Fair o m bad (h ++ (phase x l ∷ [])) → refusal (after o m h) (phase x l) ≡ None → Good o m h x → (q : ℕ) → Sound-in o m bad (h ++ (phase x l ∷ [])) q → (v : L) × Holds o m (h ++ (phase x l ∷ [])) q v
     termination h x l F r g q fq =
         let s = after o m h in
         let A = allowed s x l r in
@@ -355,7 +355,7 @@ module _ {L : Type 0} (o : Comparison L) (T : Total o) where
       go (verdict q) trust common h = V
 
   module _ (m : List (Slot L)) (bad : ℕ → Bool) where
-    pub validity : (h : List (Event L)) → Fair o m bad h → (v : L) → ((q : ℕ) → Trusty o m bad h q → Proposed o m h q v) → (p : ℕ) (w : L) → Trusty o m bad h p → Holds o m h p w → w ≡ v
+    pub validity : (h : List (Event L)) → Fair o m bad h → (v : L) → ((q : ℕ) → Sound-in o m bad h q → Proposed o m h q v) → (p : ℕ) (w : L) → Sound-in o m bad h p → Holds o m h p w → w ≡ v
     validity h F v all p w fp k =
         let V = history o m (λ s. Sane o T bad s × Valid (s .boards) bad (s .phases) (at (s .slots)) v) h start on in
         sym (k .2) ∙ V .1 .verdicts p fp (k .0) (k .1 .1)

@@ -26,20 +26,20 @@ module _ {L : Type 0} (o : Comparison L) (m : List (Slot L)) where
   Accepted h h₁ e = (h₂ : List (Event L)) × (h ≡ h₁ ++ (e ∷ h₂)) × (refusal (after o m h₁) e ≡ None)
 
   -- after h the slip s is the verdict of board q
-  abbrev pub Seals : List (Event L) → ℕ → Slip L → Type 0
-  Seals h q s = (q < after o m h .boards) × (at (after o m h .slots) q verdict-place ≡ Some s)
+  abbrev pub Holds-slip : List (Event L) → ℕ → Slip L → Type 0
+  Holds-slip h q s = (q < after o m h .boards) × (at (after o m h .slots) q verdict-place ≡ Some s)
 
   -- board q holds the verdict v after h
   abbrev pub Holds : List (Event L) → ℕ → L → Type 0
-  Holds h q v = (s : Slip L) × Seals h q s × (s .label ≡ v)
+  Holds h q v = (s : Slip L) × Holds-slip h q s × (s .label ≡ v)
 
   -- board q proposed v in h
   abbrev pub Proposed : List (Event L) → ℕ → L → Type 0
   Proposed h q v = (h₁ : List (Event L)) × Accepted h h₁ (propose q v)
 
   -- q is a board of the panel after h, and is not bad
-  abbrev pub Trusty : (ℕ → Bool) → List (Event L) → ℕ → Type 0
-  Trusty bad h q = Sound (after o m h .boards) bad q
+  abbrev pub Sound-in : (ℕ → Bool) → List (Event L) → ℕ → Type 0
+  Sound-in bad h q = Sound (after o m h .boards) bad q
 
   -- the exchange of each accepted phase keeps its meaning, and its bad boards are those given, at most as many as it bears
   abbrev pub Fair : (ℕ → Bool) → List (Event L) → Type 0
@@ -55,13 +55,13 @@ module _ {L : Type 0} (o : Comparison L) (m : List (Slot L)) where
   -- what is promised, where `bad` are the bad boards of every accepted phase
   pub record Settled-for (bad : ℕ → Bool) : Type 0 where
     -- two sound boards never hold different verdicts
-    pub agreement : (h : List (Event L)) → Fair bad h → (p q : ℕ) (v w : L) → Trusty bad h p → Trusty bad h q → Holds h p v → Holds h q w → v ≡ w
+    pub agreement : (h : List (Event L)) → Fair bad h → (p q : ℕ) (v w : L) → Sound-in bad h p → Sound-in bad h q → Holds h p v → Holds h q w → v ≡ w
     -- a verdict is kept for good, label and number
-    pub lasting : (h more : List (Event L)) (q : ℕ) (s : Slip L) → Seals h q s → Seals (h ++ more) q s
+    pub lasting : (h more : List (Event L)) (q : ℕ) (s : Slip L) → Holds-slip h q s → Holds-slip (h ++ more) q s
     -- where every sound board proposed v, no sound board holds another verdict
-    pub validity : (h : List (Event L)) → Fair bad h → (v : L) → ((q : ℕ) → Trusty bad h q → Proposed h q v) → (p : ℕ) (w : L) → Trusty bad h p → Holds h p w → w ≡ v
+    pub validity : (h : List (Event L)) → Fair bad h → (v : L) → ((q : ℕ) → Sound-in bad h q → Proposed h q v) → (p : ℕ) (w : L) → Sound-in bad h p → Holds h p w → w ≡ v
     -- after an accepted phase of steady and clear exchanges every sound board holds a verdict
-    pub termination : (h : List (Event L)) (x : Exchange (Slip L)) (l : Lengths) → Fair bad (h ++ (phase x l ∷ [])) → refusal (after o m h) (phase x l) ≡ None → Good h x → (q : ℕ) → Trusty bad (h ++ (phase x l ∷ [])) q → (v : L) × Holds (h ++ (phase x l ∷ [])) q v
+    pub termination : (h : List (Event L)) (x : Exchange (Slip L)) (l : Lengths) → Fair bad (h ++ (phase x l ∷ [])) → refusal (after o m h) (phase x l) ≡ None → Good h x → (q : ℕ) → Sound-in bad (h ++ (phase x l ∷ [])) q → (v : L) × Holds (h ++ (phase x l ∷ [])) q v
 
   abbrev pub Settled : Type 0
   Settled = (bad : ℕ → Bool) → Settled-for bad
