@@ -1,0 +1,11 @@
+// Scripts: what the boards propose and what goes wrong between them, as bytes and in memory.
+mod fields;
+mod heads;
+pub mod model;
+pub mod reading;
+mod records;
+mod refusing;
+mod rows;
+mod store;
+mod survey;
+mod tally;
