@@ -3,6 +3,8 @@ pub mod Back
 pub mod Leaves
 pub mod Loops
 pub mod Moves
+pub mod Putting
 pub mod Counting
 pub mod Storing
 pub mod Surveys
+pub mod Outputs

@@ -1,7 +1,7 @@
 -- What the passes over a script answer and leave.
 use mathlib.Core.Path.{_≡_}
 use mathlib.Core.List.{List, _++_}
-use Prim.Native.Nat.{ℕ, _+_, _≤_}
+use Prim.Native.Nat.{ℕ, _+_, _≤_, _<_}
 use lib.Dec.{leb}
 use lib.ListN.{length, take, drop}
 use Rattle.std.specs.declared.result.Result.{Result}
@@ -57,3 +57,9 @@ Room (Err e) m k = ⊥
 abbrev pub Stored : {L : Type 0} → Read (List (Entry L)) → Result (Unit {0}) Numbered → List Record → List Record → List (Slip L) → List (Slip L) → Type 0
 Stored (Ok x) r old new old-slips new-slips = (r ≡ Ok tt) × (new ≡ laid (notes (x .0)) old) × (new-slips ≡ laid (all-slips (x .0)) old-slips)
 Stored (Err e) r old new old-slips new-slips = Unit {0}
+
+-- bytes put into a buffer from a place on: the place after them, with what then stands before it; 12 where they pass
+-- the end of the buffer
+abbrev pub Puts : List ℕ → List ℕ → ℕ → Result ℕ Numbered → List ℕ → Type 0
+Puts bytes old at (Ok q) new = (q ≡ at + length bytes) × (take q new ≡ take at old ++ bytes)
+Puts bytes old at (Err e) new = (e ≡ (12, most, InScript)) × (length new < at + length bytes)

@@ -1,5 +1,6 @@
 // Scripts: what the boards propose and what goes wrong between them, as bytes and in memory.
 mod fields;
+mod forming;
 mod heads;
 pub mod model;
 pub mod reading;
@@ -9,3 +10,4 @@ mod rows;
 mod store;
 mod survey;
 mod tally;
+pub mod writing;
