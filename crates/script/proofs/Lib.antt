@@ -8,3 +8,5 @@ pub mod Counting
 pub mod Storing
 pub mod Surveys
 pub mod Outputs
+pub mod Told
+pub mod Trips

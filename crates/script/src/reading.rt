@@ -4,7 +4,7 @@ ghost use Prim.Native.Nat.{ℕ, _+_, _<_, _≤_, _^_};
 ghost use lib.ListN.{length};
 ghost use Rattle.labels.specs.Faults.{answered};
 ghost use Rattle.script.specs.Header.{bad-map};
-ghost use Rattle.script.specs.Memory.{lists, reads, filled, Reads-back};
+ghost use Rattle.script.specs.Memory.{lists, reads, filled, Writes-back};
 ghost use Rattle.script.specs.Passes.{surveyed};
 ghost use Rattle.script.specs.Script.{decode};
 use crate::heads::read_header;
@@ -51,7 +51,8 @@ pub(crate) fn survey<L: Label>(b: &[u8]) -> Result<Survey, Fault>
 }
 
 // Reads a script into three lists, and answers its header and how many records it has. Entries past
-// those due stay as they are; a refusal leaves all three lists as they are.
+// those due stay as they are; a refusal leaves all three lists as they are. Writing what was read
+// restores its bytes.
 pub fn read<L: Label>(
     b: &[u8],
     proposals: &mut [L],
@@ -60,6 +61,7 @@ pub fn read<L: Label>(
 ) -> Result<(Header, usize), Fault>
     ensures value { λ r. ⌜ answered r ≡ reads (L·Label .coding) (now (b .entry)) (lists (now (proposals .entry)) (now (records .entry)) (now (slips .entry))) ⌝ }
     ensures after { λ _. ⌜ lists (now (proposals .exit)) (now (records .exit)) (now (slips .exit)) ≡ filled (decode (L·Label .coding) (now (b .entry))) (lists (now (proposals .entry)) (now (records .entry)) (now (slips .entry))) ⌝ }
+    ensures trip { λ _. ⌜ Writes-back (L·Label .coding) ⌝ }
 {
     let found = survey::<L>(b)?;
     let n = found.head.boards as usize;
