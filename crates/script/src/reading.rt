@@ -11,8 +11,10 @@ use crate::heads::read_header;
 use crate::model::Header;
 use crate::model::Record;
 use crate::refusing::in_script;
-use crate::rows::fill_labels;
-use crate::rows::skip_labels;
+use crate::rows::Labels;
+use crate::rows::LabelsRow;
+use crate::rows::fill_row;
+use crate::rows::skip_row;
 use crate::store::fill_entries;
 use crate::survey::Survey;
 use crate::tally::count_entries;
@@ -39,7 +41,7 @@ pub(crate) fn survey<L: Label>(b: &[u8]) -> Result<Survey, Fault>
         return Err(in_script(Refusal::ScriptTooLong, 60_000));
     }
     let (head, start) = read_header(L::kind_number(), b, 0)?;
-    let rest = skip_labels::<L>(head.boards as usize, b, start)?;
+    let rest = skip_row::<L, Labels>(head.boards as usize, b, start)?;
     let (records, slips) = count_entries::<L>(head.boards, bad_boards(head), b, rest)?;
     Ok(Survey {
         head,
@@ -68,7 +70,7 @@ pub fn read<L: Label>(
     if proposals.len() < n || records.len() < found.records || slips.len() < found.slips {
         return Err(in_script(Refusal::MemoryTooShort, b.len()));
     }
-    let _ = fill_labels::<L>(n, b, found.start, proposals)?;
+    let _ = fill_row::<L, Labels>(n, b, found.start, 0, proposals)?;
     fill_entries::<L>(
         found.head.boards,
         bad_boards(found.head),

@@ -19,10 +19,10 @@ returns-then-proposals-n g c =
     let e = reads-short (g .L·Label .coding) (g .L·Label·met .own) (c .args .b .now) (c .in-Continue-found .found) f (lists (c .args .proposals .now) (c .args .records .now) (c .args .slips .now)) (λ i j k. omega (arith, c .then-proposals-n .either)) in
     record { value = ap Err (c .in-script .ensures) ∙ e .0; after = e .1; trip = writes-back (g .L·Label .coding) (g .L·Label·met .own) }
 
-pub returns-in-Break-fill-labels : need.returns-in-Break-fill-labels
-returns-in-Break-fill-labels g c =
+pub returns-in-Break-fill-row : need.returns-in-Break-fill-row
+returns-in-Break-fill-row g c =
     let f = found (g .L·Label .coding) (g .L·Label·met .own) (c .args .b .now) (c .in-Continue-found .found) (c .in-Continue-found .ensures tt) in
-    absurd (no-label-fault (g .L·Label .coding) (g .L·Label·met .own) (c .args .b .now) (c .in-Continue-found .found) f _ _ _ (c .in-Break-fill-labels .ensures tt))
+    absurd (no-label-fault (g .L·Label .coding) (g .L·Label·met .own) (c .args .b .now) (c .in-Continue-found .found) f _ _ _ (c .in-Break-fill-row .ensures tt))
 
 pub fill-entries-requires : need.fill-entries-requires
 fill-entries-requires g c κs =
@@ -37,5 +37,5 @@ returns-in-Break-fill-entries g c =
 pub returns : need.returns
 returns g c =
     let f = found (g .L·Label .coding) (g .L·Label·met .own) (c .args .b .now) (c .in-Continue-found .found) (c .in-Continue-found .ensures tt) in
-    let e = reads-all (g .L·Label .coding) (g .L·Label·met .own) (c .args .b .now) (c .in-Continue-found .found) f _ (c .bad-boards .ensures) _ (lists (c .args .proposals .now) (c .args .records .now) (c .args .slips .now)) _ _ _ (omega arith) (omega arith) (omega arith) (c .in-Continue-fill-labels .ensures tt) (c .in-Continue-fill-entries .ensures tt) in
+    let e = reads-all (g .L·Label .coding) (g .L·Label·met .own) (c .args .b .now) (c .in-Continue-found .found) f _ (c .bad-boards .ensures) _ (lists (c .args .proposals .now) (c .args .records .now) (c .args .slips .now)) _ _ _ (omega arith) (omega arith) (omega arith) (c .in-Continue-fill-row .ensures tt) (c .in-Continue-fill-entries .ensures tt) in
     record { value = e .0; after = e .1; trip = writes-back (g .L·Label .coding) (g .L·Label·met .own) }
