@@ -15,7 +15,7 @@ use Rattle.labels.specs.Faults.{Numbered, require}
 use Rattle.labels.specs.declared.fault.Reader.the-variants.{Record as InRecord, Script as InScript}
 use Rattle.script.specs.declared.model.Header.{Header}
 use Rattle.script.specs.declared.survey.Survey.{Survey}
-use Rattle.script.specs.Memory.{Lists, formed, writes, laid}
+use Rattle.script.specs.Memory.{Lists, formed, last-checks, writes}
 use Rattle.script.specs.Passes.{Puts, surveyed}
 use Rattle.script.specs.Readers.{bind}
 use Rattle.script.specs.Script.{Script, decode, most}
@@ -35,19 +35,11 @@ decode-long C b h = rw (lt-leb (length b) most h) refl
 module _ {L : Type 0} (C : Coding L) (own : Own C) (h : Header) (count : ℕ) (m : Lists L) (size : ℕ) where
   -- what write answers after what read does
   finish : Result (Script L) Numbered → Result ℕ Numbered
-  finish z = bind z (λ s. require (leb count (length (m .records))) (13, length (formed C h count m), InRecord) (require (leb (length (formed C h count m)) size) (22, size, InScript) (Ok (length (formed C h count m)))))
+  finish z = bind z (λ s. bind (last-checks count (length (m .records)) (length (formed C h count m)) size) (λ _. Ok (length (formed C h count m))))
 
   finished : (z : Result (Script L) Numbered) → decode C (formed C h count m) ≡ z → finish z ≡ writes C h count m size
   unfolding finish
   finished z e = ap finish (sym e)
-
-  -- the bytes read as a script
-  pub accepts : (t u : Bool) → leb count (length (m .records)) ≡ t → leb (length (formed C h count m)) size ≡ u → (s : Script L) → decode C (formed C h count m) ≡ Ok s → require t (13, length (formed C h count m), InRecord) (require u (22, size, InScript) (Ok (length (formed C h count m)))) ≡ writes C h count m size
-  unfolding finish
-  accepts t u i j s d =
-      ap (λ z. require z (13, length (formed C h count m), InRecord) (require u (22, size, InScript) (Ok (length (formed C h count m))))) (sym i)
-      ∙ ap (λ z. require (leb count (length (m .records))) (13, length (formed C h count m), InRecord) (require z (22, size, InScript) (Ok (length (formed C h count m))))) (sym j)
-      ∙ finished (Ok s) d
 
   pub writes-long : (new : List ℕ) (e : Numbered) → length new ≡ most → Puts (formed C h count m) [] 0 (Err e) new → Err e ≡ writes C h count m size
   unfolding finish
@@ -55,20 +47,17 @@ module _ {L : Type 0} (C : Coding L) (own : Own C) (h : Header) (count : ℕ) (m
       let v = k .1 in
       ap Err (k .0) ∙ finished (Err (12, most, InScript)) (decode-long C (formed C h count m) (omega arith))
 
+  -- the bytes read as a script
+  pub writes-read : (s : Script L) → decode C (formed C h count m) ≡ Ok s → (r : Result (Unit {0}) Numbered) → r ≡ last-checks count (length (m .records)) (length (formed C h count m)) size → bind r (λ _. Ok (length (formed C h count m))) ≡ writes C h count m size
+  unfolding finish
+  writes-read s d r e = ap (λ z. bind z (λ _. Ok (length (formed C h count m)))) e ∙ finished (Ok s) d
+
   module _ (b : List ℕ) (is : b ≡ formed C h count m) where
     pub writes-fault : (g : Numbered) → Err g ≡ surveyed C b → Err g ≡ writes C h count m size
     unfolding finish
     writes-fault g e = finished (Err g) (ap (decode C) (sym is) ∙ same-fault C own b g e)
 
-    module _ (v : Survey) (e : Ok v ≡ surveyed C b) where
-      accepted : (t u : Bool) → leb count (length (m .records)) ≡ t → leb (length (formed C h count m)) size ≡ u → require t (13, length (formed C h count m), InRecord) (require u (22, size, InScript) (Ok (length (formed C h count m)))) ≡ writes C h count m size
-      accepted t u i j = let f = found C own b v e in accepts t u i j (record { head = v .head; proposals = f .ps; records = f .es }) (ap (decode C) (sym is) ∙ f .decodes)
-
-      pub writes-cut : length (m .records) < count → Err (13, length (formed C h count m), InRecord) ≡ writes C h count m size
-      writes-cut short = accepted false _ (lt-leb count (length (m .records)) short) refl
-
-      pub writes-short : count ≤ length (m .records) → size < length (formed C h count m) → Err (22, size, InScript) ≡ writes C h count m size
-      writes-short all short = accepted true false (le-leb count (length (m .records)) all) (lt-leb (length (formed C h count m)) size short)
-
-      pub writes-all : count ≤ length (m .records) → length (formed C h count m) ≤ size → Ok (length (formed C h count m)) ≡ writes C h count m size
-      writes-all all fits = accepted true true (le-leb count (length (m .records)) all) (le-leb (length (formed C h count m)) size fits)
+    pub writes-last : (v : Survey) → Ok v ≡ surveyed C b → (r : Result (Unit {0}) Numbered) (k : ℕ) → k ≡ length (formed C h count m) → r ≡ last-checks count (length (m .records)) k size → bind r (λ _. Ok (length (formed C h count m))) ≡ writes C h count m size
+    writes-last v e r k u c =
+        let f = found C own b v e in
+        writes-read (record { head = v .head; proposals = f .ps; records = f .es }) (ap (decode C) (sym is) ∙ f .decodes) r (c ∙ ap (λ z. last-checks count (length (m .records)) z size) u)

@@ -21,13 +21,13 @@ use Rattle.script.specs.declared.model.Record.{Record}
 use Rattle.script.specs.Entries.{Entry, entry, entries, entry-bytes}
 use Rattle.script.specs.Fields.{many, joined}
 use Rattle.script.specs.Header.{header, header-bytes, bad-map}
-use Rattle.script.specs.Memory.{Lists, lists, with-slips, held, notes, all-slips, laid, room, reads, filled, formed, writes, written, Reads-back, Writes-back}
+use Rattle.script.specs.Memory.{Lists, lists, with-slips, held, notes, all-slips, laid, room, reads, filled, formed, last-checks, writes, written, Reads-back, Writes-back}
 use Rattle.script.specs.Readers.{Read, then, bind}
 use Rattle.script.specs.Script.{Script, encode, decode, most}
 use Rattle.script.proofs.Back.{encodes-back}
 use Rattle.script.proofs.Follow.{then-inv, bind-inv, require-inv, past}
 use Rattle.script.proofs.Moves.{Whole, label-moves, decode-whole}
-use Rattle.script.proofs.Outputs.{accepts}
+use Rattle.script.proofs.Outputs.{writes-read}
 use Rattle.script.proofs.Storing.{length-notes}
 use Rattle.script.proofs.Told.{label-forth, row-told, header-told, entries-told}
 
@@ -70,7 +70,8 @@ writes-back {L} C own b given h count z e size fits =
     let n : length (s .records) ≡ count = ap (λ x. x .1) o in
     let all : count ≤ length (m .records) = omega (arith, ap length rs, length-append (notes (s .records)) (drop (length (notes (s .records))) (given .records)), length-notes (s .records)) in
     let short : length (formed C h count m) ≤ size = omega (arith, ap length bytes) in
-    let a = accepts C own h count m size true true (le-leb count (length (m .records)) all) (le-leb (length (formed C h count m)) size short) s (ap (decode C) bytes ∙ d) in
+    let passes : Ok tt ≡ last-checks count (length (m .records)) (length (formed C h count m)) size = (λ i. require (sym (le-leb count (length (m .records)) all) i) (13, length (formed C h count m), InRecord) (require (sym (le-leb (length (formed C h count m)) size short) i) (22, size, InScript) (Ok tt))) in
+    let a = writes-read C own h count m size s (ap (decode C) bytes ∙ d) (Ok tt) passes in
     (sym a ∙ ap (λ l. Ok (length l)) bytes, bytes))
 
 -- the script that was read of bytes that were written is the one in memory
@@ -97,9 +98,9 @@ told {L} C own h count m b s is e =
 pub reads-back : {L : Type 0} (C : Coding L) → Own C → Reads-back C
 reads-back {L} C own h count m out k e given has =
     bind-inv (decode C (formed C h count m)) _ _ e (λ s d e₁.
-    let t₁ = require-inv (leb count (length (m .records))) _ _ _ e₁ in
-    let t₂ = require-inv (leb (length (formed C h count m)) (length out)) _ _ _ (t₁ .1) in
-    let size : length (formed C h count m) ≡ k = cc (t₂ .1) in
+    bind-inv (last-checks count (length (m .records)) (length (formed C h count m)) (length out)) _ _ e₁ (λ _ e₂ e₃.
+    let t₁ = require-inv (leb count (length (m .records))) _ _ _ e₂ in
+    let size : length (formed C h count m) ≡ k = cc (e₃) in
     let w = told C own h count m (formed C h count m) s refl d in
     let n : length (s .records) ≡ count = w .1 ∙ length-take-le count (m .records) (leb-true _ _ (t₁ .0)) in
     let u : s .head ≡ h = ap (λ z. z .head) (w .0) in
@@ -108,4 +109,4 @@ reads-back {L} C own h count m out k e given has =
     let is : b ≡ formed C h count m = take-at (formed C h count m) (drop (length (formed C h count m)) out) k size in
     let d₁ : decode C b ≡ Ok s = ap (decode C) is ∙ d in
     let answer : reads C b given ≡ Ok (h, count) = ap (λ z. bind z (λ s. require (room s given) (10, length b, InScript) (Ok (s .head, length (s .records))))) d₁ ∙ ap (λ z. require z (10, length b, InScript) (Ok (s .head, length (s .records)))) fits ∙ (λ i. Ok (u i, n i)) in
-    (answer, after-read C own b s given h count d₁ fits u n ∙ w .0))
+    (answer, after-read C own b s given h count d₁ fits u n ∙ w .0)))

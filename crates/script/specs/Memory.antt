@@ -73,14 +73,17 @@ filled (Err e) m = m
 abbrev pub formed : {L : Type 0} → Coding L → Header → ℕ → Lists L → List ℕ
 formed C h count m = encode C (held h count m)
 
--- what write answers, at an output of so many bytes: what read answers for the bytes, but for memory; 13 at their end
--- where records are missing; 22; else how many bytes there are
+-- what is still refused of bytes that read well: 13 at their end where records are missing, then 22
+abbrev pub last-checks : ℕ → ℕ → ℕ → ℕ → Result (Unit {0}) Numbered
+last-checks count there bytes size = require (leb count there) (13, bytes, InRecord) (require (leb bytes size) (22, size, InScript) (Ok tt))
+
+-- what write answers, at an output of so many bytes: what read answers for the bytes, but for memory; then the last
+-- checks; else how many bytes there are
 abbrev pub writes : {L : Type 0} → Coding L → Header → ℕ → Lists L → ℕ → Result ℕ Numbered
 writes C h count m size =
     bind (decode C (formed C h count m)) (λ s.
-    require (leb count (length (m .records))) (13, length (formed C h count m), InRecord) (
-    require (leb (length (formed C h count m)) size) (22, size, InScript) (
-    Ok (length (formed C h count m)))))
+    bind (last-checks count (length (m .records)) (length (formed C h count m)) size) (λ _.
+    Ok (length (formed C h count m))))
 
 -- what the output holds after an answer: a refusal leaves it as it is
 abbrev pub written : Result ℕ Numbered → List ℕ → List ℕ → List ℕ

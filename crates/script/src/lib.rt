@@ -10,4 +10,6 @@ mod rows;
 mod store;
 mod survey;
 mod tally;
+#[cfg(test)]
+mod tests;
 pub mod writing;

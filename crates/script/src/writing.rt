@@ -2,7 +2,7 @@
 ghost use mathlib.Core.Path.{_≡_};
 ghost use lib.ListN.{length};
 ghost use Rattle.labels.specs.Faults.{answered};
-ghost use Rattle.script.specs.Memory.{lists, formed, writes, written, Reads-back};
+ghost use Rattle.script.specs.Memory.{lists, formed, last-checks, writes, written, Reads-back};
 use crate::forming::form;
 use crate::model::Header;
 use crate::model::Record;
@@ -13,6 +13,19 @@ use labels::fault::Fault;
 use labels::label::Label;
 use labels::refusal::Refusal;
 use labels::slip::Slip;
+
+// What is still refused of bytes that the reader takes: missing records, then too short an output.
+fn check_last(count: usize, there: usize, bytes: usize, size: usize) -> Result<(), Fault>
+    ensures { λ r. ⌜ answered r ≡ last-checks count there bytes size ⌝ }
+{
+    if there < count {
+        return Err(in_record(Refusal::InputEnds, bytes));
+    }
+    if size < bytes {
+        return Err(in_script(Refusal::OutputTooShort, size));
+    }
+    Ok(())
+}
 
 // Writes the bytes of the script in memory, and answers how many there are. What the reader would
 // refuse is refused by the same fault; bytes past those written, and all of them on a refusal, stay
@@ -32,12 +45,7 @@ pub fn write<L: Label>(
     let mut buffer = [0u8; 60_000];
     let size = form(head, proposals, records, count, slips, &mut buffer)?;
     let _ = survey::<L>(&buffer[0..size])?;
-    if records.len() < count {
-        return Err(in_record(Refusal::InputEnds, size));
-    }
-    if output.len() < size {
-        return Err(in_script(Refusal::OutputTooShort, output.len()));
-    }
+    check_last(count, records.len(), size, output.len())?;
     output[0..size].copy_from_slice(&buffer[0..size]);
     Ok(size)
 }
