@@ -2,6 +2,6 @@
 pub mod backplane;
 pub mod cut_lines;
 pub mod exchange;
-mod maps;
+pub mod maps;
 mod plain;
 pub mod two_faced;
