@@ -1,0 +1,5 @@
+// A backplane that obeys the records of a script.
+pub mod model;
+mod rules;
+pub mod script_plane;
+mod script_rules;
