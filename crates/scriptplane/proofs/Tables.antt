@@ -22,7 +22,7 @@ abbrev pub Entered : List (Option Rule) → List Record → List Record → ℕ 
 Entered table all rest start round first =
     (s : ℕ) → s < 8 → or-else (getD table s None) (first-rule rest start round (first + s)) ≡ first-rule all 0 round (first + s)
 
-abbrev ruled : Record → ℕ → Rule
+abbrev pub ruled : Record → ℕ → Rule
 ruled c k = record { lost = c .lost; forged = c .forged; start = k }
 
 pub or-else-none : {X : Type 0} (o : Option X) → or-else o None ≡ o

@@ -5,6 +5,7 @@ ghost use lib.ListN.{take};
 ghost use Rattle.std.specs.Finite.{nth};
 ghost use Rattle.std.specs.Of.Vec.{vec-items};
 ghost use Rattle.exchanges.specs.Plane.{Carried};
+ghost use Rattle.scriptplane.specs.Obeys.{Obeys};
 ghost use Rattle.scriptplane.specs.Script.{obeyed, script};
 ghost use Rattle.scriptplane.specs.ScriptPlane.{script-plane};
 use crate::model::Record;
@@ -60,7 +61,8 @@ fn obey<I: Copy>(
 impl<I: Copy> ScriptBackplane<I> {
     // So many boards, the map of the bad ones, the records of which the first so many count, and the forged items of all these in order; at round 0.
     pub fn new(boards: u8, bad: u8, records: Vec<Record>, count: usize, slips: Vec<I>) -> Self
-        ensures { λ r. ⌜ script-plane r ≡ script boards bad (take count (vec-items records)) (vec-items slips) 0 ⌝ }
+        ensures means { λ r. ⌜ script-plane r ≡ script boards bad (take count (vec-items records)) (vec-items slips) 0 ⌝ }
+        ensures obeys { λ r. ⌜ Obeys boards bad (take count (vec-items records)) (vec-items slips) (script-plane r) ⌝ }
     {
         ScriptBackplane {
             boards,
