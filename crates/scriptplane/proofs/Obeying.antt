@@ -16,14 +16,14 @@ use Rattle.std.proofs.shelf.Ways.{decides-below-and}
 use Rattle.std.specs.Finite.{nth}
 use Rattle.std.specs.declared.option.Option.{Option}
 use Rattle.std.specs.declared.option.Option.the-variants.{Some, None}
-use Rattle.exchanges.specs.Boards.{Sound, bit, count}
+use Rattle.exchanges.specs.Boards.{bit, count}
 use Rattle.exchanges.specs.CutLines.{each-below}
 use Rattle.exchanges.specs.Plane.{Plane, Call, round-after}
 use Rattle.exchanges.proofs.Cuts.{each-at, free}
 use Rattle.scriptplane.specs.declared.model.Record.{Record}
 use Rattle.scriptplane.specs.declared.rules.Rule.{Rule}
 use Rattle.scriptplane.specs.Script.{is-for, first-rule, obeyed, loses, script}
-use Rattle.scriptplane.specs.Obeys.{Unsaid, First, forged-items, Obeys}
+use Rattle.scriptplane.specs.Obeys.{Unsaid, First, Lossless, forged-items, Obeys}
 use Rattle.scriptplane.proofs.Tables.{ruled}
 
 digit : (t : ℕ) → t < 2 → ones t ≡ cond (eqb t 1) 1 0
@@ -75,15 +75,10 @@ module _ (r s : ℕ) where
           ⊎-elim (λ h. inl (apart, h)) (λ f. inr (c ∷ f .0, f .1, record { later = f .2 .later; stands = ap (λ m. c ∷ m) (f .2 .stands); unsaid = (apart, f .2 .unsaid); of-round = f .2 .of-round; of-sender = f .2 .of-sender })) rest
 
 module _ (records : List Record) (bad : ℕ) (n r : ℕ) where
-  -- nothing is lost between sound boards
-  abbrev Lossless : Type 0
-  Lossless =
-      (s d : ℕ) → Sound n (λ p. bit bad p) s → Sound n (λ p. bit bad p) d → (earlier : List Record) (c : Record) → First records earlier c r s → bit (c .lost) d ≡ false
-
   abbrev kept : ℕ → ℕ → Bool
   kept s d = bit bad s || (bit bad d || not (loses (first-rule records 0 r s) d))
 
-  lossless-kept : Lossless → (s d : ℕ) → s < n → d < n → kept s d ≡ true
+  lossless-kept : Lossless n bad records r → (s d : ℕ) → s < n → d < n → kept s d ≡ true
   lossless-kept h s d sn dn = go (cases-bool (bit bad s)) (cases-bool (bit bad d))
     where
       go : (bit bad s ≡ true) ⊎ (bit bad s ≡ false) → (bit bad d ≡ true) ⊎ (bit bad d ≡ false) → kept s d ≡ true
@@ -97,11 +92,11 @@ module _ (records : List Record) (bad : ℕ) (n r : ℕ) where
   each-all f h =
       decides-below-and f (λ j. f j ≡ true) (each-below f) (λ j. (λ e. e, λ e. e)) refl (λ _. refl) n .1 h
 
-  lossless-clear : Lossless → each-below (λ s. each-below (kept s) n) n ≡ true
+  lossless-clear : Lossless n bad records r → each-below (λ s. each-below (kept s) n) n ≡ true
   lossless-clear h =
       each-all (λ s. each-below (kept s) n) (λ s sn. each-all (kept s) (λ d dn. lossless-kept h s d sn dn))
 
-  clear-lossless : each-below (λ s. each-below (kept s) n) n ≡ true → Lossless
+  clear-lossless : each-below (λ s. each-below (kept s) n) n ≡ true → Lossless n bad records r
   clear-lossless h s d p q earlier c f =
       sym (ap (λ o. loses o d) (first-says r s records earlier c f)) ∙ free (bit bad s) (bit bad d) _ (each-at (kept s) n d (each-at (λ t. each-below (kept t) n) n s h (p .0)) (q .0)) (p .1) (q .1)
 

@@ -30,6 +30,11 @@ abbrev pub forged-items : List Record → ℕ
 forged-items [] = 0
 forged-items (c ∷ l) = ones (c .forged) + forged-items l
 
+-- no first record for the round and a sound sender loses an item to a sound board
+abbrev pub Lossless : ℕ → ℕ → List Record → ℕ → Type 0
+Lossless n bad records r =
+    (s d : ℕ) → Sound n (λ p. bit bad p) s → Sound n (λ p. bit bad p) d → (earlier : List Record) (c : Record) → First records earlier c r s → bit (c .lost) d ≡ false
+
 -- the first record for the round and sender decides what d hears where s sends x, after any calls
 pub record Obeys {I : Type 0} (n bad : ℕ) (records : List Record) (slips : List I) (b : Plane I) : Type 0 where
   -- where there is none, what was sent
@@ -40,5 +45,5 @@ pub record Obeys {I : Type 0} (n bad : ℕ) (records : List Record) (slips : Lis
   pub forged : (l : List (Call I)) (s d : ℕ) (x : Option I) → s < n → d < n → (earlier : List Record) (c : Record) → First records earlier c (round-after (b .round) l) s → bit (c .lost) d ≡ false → bit bad s ≡ true → bit (c .forged) d ≡ true → b .answer l s d x ≡ nth slips (forged-items earlier + count (λ q. bit (c .forged) q) d)
   -- else what was sent
   pub sent : (l : List (Call I)) (s d : ℕ) (x : Option I) → s < n → d < n → (earlier : List Record) (c : Record) → First records earlier c (round-after (b .round) l) s → bit (c .lost) d ≡ false → (bit bad s && bit (c .forged) d) ≡ false → b .answer l s d x ≡ x
-  -- a round is clear exactly when no such record loses an item between two sound boards
-  pub clear : (r : ℕ) → Decides (b .clear r) ((s d : ℕ) → Sound n (λ p. bit bad p) s → Sound n (λ p. bit bad p) d → (earlier : List Record) (c : Record) → First records earlier c r s → bit (c .lost) d ≡ false)
+  -- a round is clear exactly when nothing is lost between sound boards
+  pub clear : (r : ℕ) → Decides (b .clear r) (Lossless n bad records r)

@@ -28,8 +28,7 @@ fn bits(map: u8) -> usize
 
 // How many bits below the board's stand in the map.
 pub(crate) fn rank(map: u8, board: usize) -> usize
-    ensures value { λ r. ⌜ r ≡ ones (map % 2 ^ board) ⌝ }
-    ensures bound { λ r. ⌜ r ≤ 8 ⌝ }
+    ensures { λ r. ⌜ r ≡ ones (map % 2 ^ board) ⌝ }
 {
     if board >= 8 {
         return bits(map);

@@ -10,4 +10,4 @@ pub returns-then-board-ge8 : need.returns-then-board-ge8
 returns-then-board-ge8 c =
     let p : 2 ^ 8 ≤ 2 ^ (c .args .board) = pow-mono {i = 8} {j = c .args .board} (omega arith) in
     let below : c .args .map < 2 ^ (c .args .board) = omega arith in
-    record { value = c .bits .ensures .value ∙ ap ones (sym (mod-eq-of-lt below)); bound = c .bits .ensures .bound }
+    c .bits .ensures .value ∙ ap ones (sym (mod-eq-of-lt below))
