@@ -1,0 +1,3 @@
+pub mod Script
+pub mod Obeys
+pub mod ScriptPlane
