@@ -10,3 +10,6 @@ pub mod Surveys
 pub mod Outputs
 pub mod Told
 pub mod Trips
+pub mod Tables
+pub mod Scripts
+pub mod Obeying

@@ -1,3 +1,0 @@
-pub mod Tables
-pub mod Scripts
-pub mod Obeying
