@@ -4,7 +4,7 @@ use mathlib.Core.List.{List, [], _∷_, _++_}
 use Prim.Native.Nat.{ℕ, zero, suc, _+_, _-_, _≤_, _<_}
 use native.Mathlib.Nat.{add-zero}
 use native.Mathlib.Omega.{arith}
-use borrow.Author.Tests.{le-leb, le-ltb, lt-ltb}
+use borrow.Author.Tests.{lt-ltb}
 use lib.Count.{ones}
 use lib.ListN.{length}
 use Rattle.std.proofs.shelf.Lists.{length-append}
@@ -18,7 +18,7 @@ use Rattle.script.specs.Readers.{Read, then}
 use Rattle.script.specs.Memory.{all-slips}
 use Rattle.script.specs.Passes.{noted, counted}
 use Rattle.script.proofs.Follow.{ok-same}
-use Rattle.script.proofs.Moves.{entry-moves}
+use Rattle.script.proofs.Moves.{entry-moves, ended}
 
 -- so many records and slips more
 abbrev pub added : {L : Type 0} → ℕ → ℕ → Read (List (Entry L)) → Result (ℕ × ℕ) Numbered
@@ -80,13 +80,9 @@ module _ {L : Type 0} (C : Coding L) (own : Own C) (n bad : ℕ) (b : List ℕ) 
       let step : entries C n bad (length b - count) round sender b p ≡ Err g = rw (left, lt-ltb p (length b) more, a) refl in
       sym (i .reads ∙ ap (added count slips) step)
 
-  ended : (k a c p : ℕ) → length b ≤ p → entries C n bad k a c b p ≡ Ok ([], p)
-  ended zero a c p h = rw (le-leb (length b) p h) refl
-  ended (suc k) a c p h = rw (le-ltb p (length b) h) refl
-
   pub counting-all : (p count slips round sender : ℕ) → length b ≤ p → Counting C n bad b start p count slips round sender → Ok (count, slips) ≡ counted (entries C n bad (length b) 0 0 b start)
   counting-all p count slips round sender h i =
-      let e = ended (length b - count) round sender p h in
+      let e = ended C n bad (length b - count) round sender b p h in
       let c : count + 0 ≡ count = add-zero count in
       let s : slips + 0 ≡ slips = add-zero slips in
       let all : added count slips (entries C n bad (length b - count) round sender b p) ≡ Ok (count + 0, slips + 0) = ap (added count slips) e in

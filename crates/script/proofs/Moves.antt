@@ -4,7 +4,7 @@ use mathlib.Core.Bool.{Bool, true, false, not, _&&_}
 use mathlib.Core.List.{List, [], _∷_, _++_}
 use Prim.Native.Nat.{ℕ, zero, suc, _+_, _-_, _*_, _^_, _≤_, _<_}
 use native.Mathlib.Omega.{arith}
-use borrow.Author.Tests.{leb-true}
+use borrow.Author.Tests.{leb-true, le-leb, le-ltb}
 use lib.Count.{ones}
 use lib.Dec.{leb, ltb, eqb}
 use lib.ListN.{length, drop, take}
@@ -135,3 +135,8 @@ module _ {L : Type 0} (C : Coding L) (own : Own C) where
       let y : Script L = record { head = h; proposals = ps; records = es } in
       let o : y ≡ s = cc in
       subst (λ z. (length (z .proposals) ≡ z .head .boards) × Whole (z .records)) o (many-moves (read-at C) (label-moves C own) (h .boards) b p ps q e₂ .2, entries-whole (h .boards) (bad-map h) (length b) 0 0 b q es r e₃))))
+
+-- where nothing is left, there are no more records
+pub ended : {L : Type 0} (C : Coding L) (n bad k a c : ℕ) (b : List ℕ) (p : ℕ) → length b ≤ p → entries C n bad k a c b p ≡ Ok ([], p)
+ended C n bad zero a c b p h = rw (le-leb (length b) p h) refl
+ended C n bad (suc k) a c b p h = rw (le-ltb p (length b) h) refl

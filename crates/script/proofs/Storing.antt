@@ -3,7 +3,7 @@ use mathlib.Core.Path.{_≡_, refl, sym, ap, subst, _∙_}
 use mathlib.Core.List.{List, [], _∷_, _++_, append-assoc, append-nil}
 use Prim.Native.Nat.{ℕ, zero, suc, _+_, _-_, _≤_, _<_}
 use native.Mathlib.Omega.{arith}
-use borrow.Author.Tests.{le-leb, le-ltb, lt-ltb}
+use borrow.Author.Tests.{lt-ltb}
 use lib.Count.{ones}
 use lib.ListN.{length, take, drop, set, getD, take-append-drop}
 use Rattle.std.proofs.shelf.Lists.{length-append, length-drop, drop-drop, take-at, drop-at, set-at, drop-more}
@@ -20,7 +20,7 @@ use Rattle.script.specs.Memory.{all-slips, notes, laid}
 use Rattle.script.specs.Passes.{Filled, Room, Stored}
 use Rattle.script.proofs.Loops.{onto, none-onto, one-onto}
 use Rattle.script.proofs.Follow.{then-inv, ok-same}
-use Rattle.script.proofs.Moves.{entry-moves}
+use Rattle.script.proofs.Moves.{entry-moves, ended}
 
 pub length-notes : {L : Type 0} (es : List (Entry L)) → length (notes es) ≡ length es
 length-notes [] = refl
@@ -181,13 +181,9 @@ module _ {L : Type 0} (C : Coding L) (own : Own C) (n bad : ℕ) (b : List ℕ) 
               holds-slips = push-slips (s .ds) (t .e) old-slips new-slips ns done w c₂ (s .holds-slips) (i .1);
             }
 
-  ended : (k a c p : ℕ) → length b ≤ p → entries C n bad k a c b p ≡ Ok ([], p)
-  ended zero a c p h = rw (le-leb (length b) p h) refl
-  ended (suc k) a c p h = rw (le-ltb p (length b) h) refl
-
   pub storing-all : (p count done round sender : ℕ) (new : List Record) (new-slips : List (Slip L)) → Storing C n bad b start old old-slips p count done round sender new new-slips → length b ≤ p → Stored (entries C n bad (length b) 0 0 b start) (Ok tt) old new old-slips new-slips
   storing-all p count done round sender new new-slips s h =
-      let all : entries C n bad (length b) 0 0 b start ≡ Ok (s .ds, p) = s .reads ∙ ap (onto (s .ds)) (ended (length b - count) round sender p h) ∙ ap (λ l. Ok (l, p)) (append-nil (s .ds)) in
+      let all : entries C n bad (length b) 0 0 b start ≡ Ok (s .ds, p) = s .reads ∙ ap (onto (s .ds)) (ended C n bad (length b - count) round sender b p h) ∙ ap (λ l. Ok (l, p)) (append-nil (s .ds)) in
       let a : new ≡ laid (notes (s .ds)) old = s .holds ∙ ap (λ z. notes (s .ds) ++ drop z old) (sym (length-notes (s .ds) ∙ s .counts)) in
       let c : new-slips ≡ laid (all-slips (s .ds)) old-slips = s .holds-slips ∙ ap (λ z. all-slips (s .ds) ++ drop z old-slips) (sym (s .counts-slips)) in
       subst (λ z. Stored z (Ok tt) old new old-slips new-slips) (sym all) (refl, a, c)

@@ -9,7 +9,7 @@ use lib.Count.{ones}
 use lib.Dec.{leb, ltb, eqb}
 use lib.ListN.{length, drop, take}
 use Rattle.std.proofs.shelf.Lists.{length-append, length-drop, length-take-le, take-at, take-all}
-use Rattle.std.proofs.shelf.Tests.{cases-lt, le-leb, lt-leb, le-ltb, lt-ltb, leb-true}
+use Rattle.std.proofs.shelf.Tests.{cases-lt, le-leb, lt-leb, lt-ltb, leb-true}
 use Rattle.std.specs.Options.{isSome}
 use Rattle.std.specs.declared.option.Option.{Option}
 use Rattle.std.specs.declared.option.Option.the-variants.{Some, None}
@@ -28,7 +28,7 @@ use Rattle.script.specs.Header.{boards-ok, faults-ok, faults-default, bad-ok, 
 use Rattle.script.specs.Memory.{with-slips}
 use Rattle.script.specs.Readers.{Read, then}
 use Rattle.script.proofs.Follow.{then-inv, bind-inv, ok-same, require-inv, past, past-one}
-use Rattle.script.proofs.Moves.{Moves, slip-moves}
+use Rattle.script.proofs.Moves.{Moves, slip-moves, ended}
 
 -- a chain whose first answer is known
 then-at : {X Y : Type 0} (m : Read X) (f : X → ℕ → Result Y Numbered) (y : Y) (x : X) (q : ℕ) → m ≡ Ok (x, q) → then m f ≡ Ok y → f x q ≡ Ok y
@@ -178,15 +178,11 @@ module _ {L : Type 0} (C : Coding L) (own : Own C) (n bad : ℕ) where
       let on : drop p₂ b ≡ rest-of rs ss w = ap (λ z. drop z b) (m .2) ∙ past b p₁ (joined (slip-bytes C) (take w ss)) (rest-of rs ss w) (f .1) in
       (sym (o .0) ∙ (λ j. record { note = f .0 j; slips = m .1 j }), m .0, ap (λ z. drop z b) (sym (o .1)) ∙ on)))
 
-  ended : (k a c : ℕ) (b : List ℕ) (p : ℕ) → length b ≤ p → entries C n bad k a c b p ≡ Ok ([], p)
-  ended zero a c b p h = rw (le-leb (length b) p h) refl
-  ended (suc k) a c b p h = rw (le-ltb p (length b) h) refl
-
   pub entries-told : (rs : List Record) (ss : List (Slip L)) (k a c : ℕ) (b : List ℕ) (p : ℕ) (es : List (Entry L)) (q : ℕ) → drop p b ≡ joined (entry-bytes C) (with-slips rs ss) → entries C n bad k a c b p ≡ Ok (es, q) → (es ≡ with-slips rs ss) × (length es ≡ length rs)
   unfolding rest-of
   entries-told [] ss k a c b p es q e h =
       let ends : length b ≤ p = omega (arith, length-drop p b, ap length e) in
-      let o = ok-same [] es p q (sym (ended k a c b p ends) ∙ h) in
+      let o = ok-same [] es p q (sym (ended C n bad k a c b p ends) ∙ h) in
       (sym (o .0), ap length (sym (o .0)))
   entries-told (r ∷ rs) ss zero a c b p es q e h =
       let ends = leb-true _ _ (require-inv (leb (length b) p) _ _ _ h .0) in

@@ -34,15 +34,15 @@ fn bad_boards(head: Header) -> u8
 }
 
 // The first pass: every fault but that of memory.
-pub(crate) fn survey<L: Label>(b: &[u8]) -> Result<Survey, Fault>
-    ensures { λ r. ⌜ answered r ≡ surveyed (L·Label .coding) (now (b .entry)) ⌝ }
+pub(crate) fn survey<L: Label>(input: &[u8]) -> Result<Survey, Fault>
+    ensures { λ r. ⌜ answered r ≡ surveyed (L·Label .coding) (now (input .entry)) ⌝ }
 {
-    if b.len() > 60_000 {
+    if input.len() > 60_000 {
         return Err(in_script(Refusal::ScriptTooLong, 60_000));
     }
-    let (head, start) = read_header(L::kind_number(), b, 0)?;
-    let rest = skip_row::<L, Labels>(head.boards as usize, b, start)?;
-    let (records, slips) = count_entries::<L>(head.boards, bad_boards(head), b, rest)?;
+    let (head, start) = read_header(L::kind_number(), input, 0)?;
+    let rest = skip_row::<L, Labels>(head.boards as usize, input, start)?;
+    let (records, slips) = count_entries::<L>(head.boards, bad_boards(head), input, rest)?;
     Ok(Survey {
         head,
         start,
@@ -56,25 +56,25 @@ pub(crate) fn survey<L: Label>(b: &[u8]) -> Result<Survey, Fault>
 // those due stay as they are; a refusal leaves all three lists as they are. Writing what was read
 // restores its bytes.
 pub fn read<L: Label>(
-    b: &[u8],
+    input: &[u8],
     proposals: &mut [L],
     records: &mut [Record],
     slips: &mut [Slip<L>],
 ) -> Result<(Header, usize), Fault>
-    ensures value { λ r. ⌜ answered r ≡ reads (L·Label .coding) (now (b .entry)) (lists (now (proposals .entry)) (now (records .entry)) (now (slips .entry))) ⌝ }
-    ensures after { λ _. ⌜ lists (now (proposals .exit)) (now (records .exit)) (now (slips .exit)) ≡ filled (decode (L·Label .coding) (now (b .entry))) (lists (now (proposals .entry)) (now (records .entry)) (now (slips .entry))) ⌝ }
+    ensures value { λ r. ⌜ answered r ≡ reads (L·Label .coding) (now (input .entry)) (lists (now (proposals .entry)) (now (records .entry)) (now (slips .entry))) ⌝ }
+    ensures after { λ _. ⌜ lists (now (proposals .exit)) (now (records .exit)) (now (slips .exit)) ≡ filled (decode (L·Label .coding) (now (input .entry))) (lists (now (proposals .entry)) (now (records .entry)) (now (slips .entry))) ⌝ }
     ensures trip { λ _. ⌜ Writes-back (L·Label .coding) ⌝ }
 {
-    let found = survey::<L>(b)?;
+    let found = survey::<L>(input)?;
     let n = found.head.boards as usize;
     if proposals.len() < n || records.len() < found.records || slips.len() < found.slips {
-        return Err(in_script(Refusal::MemoryTooShort, b.len()));
+        return Err(in_script(Refusal::MemoryTooShort, input.len()));
     }
-    let _ = fill_row::<L, Labels>(n, b, found.start, 0, proposals)?;
+    let _ = fill_row::<L, Labels>(n, input, found.start, 0, proposals)?;
     fill_entries::<L>(
         found.head.boards,
         bad_boards(found.head),
-        b,
+        input,
         found.rest,
         records,
         slips,
