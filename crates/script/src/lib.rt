@@ -13,6 +13,4 @@ mod script_rules;
 mod store;
 mod survey;
 mod tally;
-#[cfg(test)]
-mod tests;
 pub mod writing;

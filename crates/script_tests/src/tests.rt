@@ -1,12 +1,4 @@
 // The example of docs/script-format.md, the faults that the page lists, and lists that end too soon.
-use crate::model::Header;
-use crate::model::HeaderDebug;
-use crate::model::HeaderPartialEq;
-use crate::model::Record;
-use crate::model::RecordDebug;
-use crate::model::RecordPartialEq;
-use crate::reading::read;
-use crate::writing::write;
 use labels::fault::Fault;
 use labels::fault::FaultDebug;
 use labels::fault::FaultPartialEq;
@@ -15,6 +7,14 @@ use labels::frame_number::FrameNumber;
 use labels::kinds::FrameNumberLabel;
 use labels::refusal::Refusal;
 use labels::slip::Slip;
+use script::model::Header;
+use script::model::HeaderDebug;
+use script::model::HeaderPartialEq;
+use script::model::Record;
+use script::model::RecordDebug;
+use script::model::RecordPartialEq;
+use script::reading::read;
+use script::writing::write;
 use std::test::*;
 
 const EXAMPLE: [u8; 32] = [
