@@ -9,6 +9,4 @@ pub mod reading;
 pub mod refusal;
 pub mod slip;
 pub mod smallest;
-#[cfg(test)]
-mod tests;
 pub mod trigger_stamp;
