@@ -5,6 +5,7 @@ pub mod Chosen
 pub mod Safe
 pub mod Sure
 pub mod Phases
+pub mod Hearing
 pub mod Histories
 pub mod Choosing
 pub mod Examples

@@ -80,6 +80,21 @@ sized-append n (b ∷ l) a h e = (h .0, sized-append n l a (h .1) e)
 pub column-length : {L : Type 0} (n : ℕ) (slots : List (Slot L)) (k : ℕ) → length (column n slots k) ≡ n
 column-length n slots k = length-map-counting (λ q. at slots q k) 0 n
 
+-- the first exchanges
+module _ {L : Type 0} (n : ℕ) (slots : List (Slot L)) where
+  pub firsts-sized : (g : ℕ) → All-sized n (firsts n slots g)
+  firsts-sized zero = tt
+  firsts-sized (suc g) = sized-append n (firsts n slots g) (firm (column n slots g)) (firsts-sized g) (column-length n slots g)
+
+  pub round-firsts : (F r g : ℕ) → r + g * F ≤ last-round → round-after F r (firsts n slots g) ≡ r + g * F
+  round-firsts F r zero h = let z = zero-mul F in omega arith
+  round-firsts F r (suc g) h =
+      let m = suc-mul g F in
+      let i : round-after F r (firsts n slots g) ≡ r + g * F = round-firsts F r g (omega arith) in
+      round-append F r (firsts n slots g) (firm (column n slots g) ∷ [])
+      ∙ (ap (λ u. round-on F u (firm (column n slots g))) i
+      ∙ (cond-true (leb (r + g * F + F) last-round) (r + g * F + F) (r + g * F) (le-leb (r + g * F + F) last-round (omega arith)) ∙ omega arith))
+
 -- one place of each board replaced
 module _ {L : Type 0} (k : ℕ) (small : k < 10) (c : ℕ → Slot L) (slots : List (Slot L)) where
   pub put-length : (n : ℕ) → length (put k c slots n) ≡ length slots
@@ -171,20 +186,6 @@ module _ {L : Type 0} (o : Comparison L) (n t f : ℕ) (x : Exchange (Slip L)) (
   pub estimated-at : (q : ℕ) → q < n → at (estimated o n t f x slots) q 0 ≡ at (decided o n t f x slots) q 0
   estimated-at q lq = sym (at-decided q 0 lq (omega arith))
 
-  -- the first exchanges
-  pub firsts-sized : (g : ℕ) → All-sized n (firsts n slots g)
-  firsts-sized zero = tt
-  firsts-sized (suc g) = sized-append n (firsts n slots g) (firm (column n slots g)) (firsts-sized g) (column-length n slots g)
-
-  pub round-firsts : (F r g : ℕ) → r + g * F ≤ last-round → round-after F r (firsts n slots g) ≡ r + g * F
-  round-firsts F r zero h = let z = zero-mul F in omega arith
-  round-firsts F r (suc g) h =
-      let m = suc-mul g F in
-      let i : round-after F r (firsts n slots g) ≡ r + g * F = round-firsts F r g (omega arith) in
-      round-append F r (firsts n slots g) (firm (column n slots g) ∷ [])
-      ∙ (ap (λ u. round-on F u (firm (column n slots g))) i
-      ∙ (cond-true (leb (r + g * F + F) last-round) (r + g * F + F) (r + g * F) (le-leb (r + g * F + F) last-round (omega arith)) ∙ omega arith))
-
 module _ {L : Type 0} {o : Comparison L} (T : Total o) (n t F : ℕ) (x : Exchange (Slip L)) (slots : List (Slot L)) (bad : ℕ → Bool) (A : Allowed (record { boards = n; faults = t; phases = F; slots = slots }) x) (M : fits n t ≡ true) (R : 10 * n ≤ length slots) (K : Keeps x) (same-bad : (q : ℕ) → q < x .boards → x .bad q ≡ bad q) (few : count bad (x .boards) ≤ x .faults) where
   abbrev f : ℕ
   f = F + 1
@@ -265,7 +266,7 @@ module _ {L : Type 0} {o : Comparison L} (T : Total o) (n t F : ℕ) (x : Exchan
   firm-round g l =
       let a = A .in-time in
       let b : g * x .firm-rounds ≤ f * x .firm-rounds = mul-le-mul-right (x .firm-rounds) l in
-      round-firsts o n t f x slots early late R (x .firm-rounds) (x .round) g (omega arith)
+      round-firsts n slots (x .firm-rounds) (x .round) g (omega arith)
 
   last-round-is : round-after (x .firm-rounds) (x .round) (firm-list f ++ (plain-picks ∷ [])) ≡ x .round + f * x .firm-rounds + 1
   last-round-is =
@@ -281,19 +282,19 @@ module _ {L : Type 0} {o : Comparison L} (T : Total o) (n t F : ℕ) (x : Exchan
       let e = firm-round g (omega arith) in
       let m : suc g * x .firm-rounds ≡ g * x .firm-rounds + x .firm-rounds = suc-mul g (x .firm-rounds) in
       let b : suc g * x .firm-rounds ≤ f * x .firm-rounds = mul-le-mul-right (x .firm-rounds) l in
-      goes (firm-list g) (firm (column n slots g)) (column-length n slots g) (firsts-sized o n t f x slots early late R g) (omega arith)
+      goes (firm-list g) (firm (column n slots g)) (column-length n slots g) (firsts-sized n slots g) (omega arith)
 
   picks-goes : Goes x (firm-list f) plain-picks
   picks-goes =
       let a = A .in-time in
       let e = firm-round f (omega arith) in
-      goes (firm-list f) plain-picks (column-length n (picked o n t f x slots) f) (firsts-sized o n t f x slots early late R f) (omega arith)
+      goes (firm-list f) plain-picks (column-length n (picked o n t f x slots) f) (firsts-sized n slots f) (omega arith)
 
   estimates-goes : Goes x (firm-list f ++ (plain-picks ∷ [])) plain-estimates
   estimates-goes =
       let a = A .in-time in
       let e = last-round-is in
-      goes (firm-list f ++ (plain-picks ∷ [])) plain-estimates (column-length n (estimated o n t f x slots) 0) (sized-append n (firm-list f) plain-picks (firsts-sized o n t f x slots early late R f) (column-length n (picked o n t f x slots) f)) (omega arith)
+      goes (firm-list f ++ (plain-picks ∷ [])) plain-estimates (column-length n (estimated o n t f x slots) 0) (sized-append n (firm-list f) plain-picks (firsts-sized n slots f) (column-length n (picked o n t f x slots) f)) (omega arith)
 
   pub the-phase : Phase o n t bad F f (at slots) (at (decided o n t f x slots))
   the-phase = record {
