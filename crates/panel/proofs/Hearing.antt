@@ -72,6 +72,9 @@ pub after-fills : {I : Type 0} (x : Exchange I) (l k : List (Ask I)) (a : Ask I)
 after-fills x [] k a = refl
 after-fills x (b ∷ l) k a = after-fills (after-ask x b) l k a
 
+pub fills-after : {I : Type 0} (x : Exchange I) (l : List (Ask I)) (y : Exchange I) (a : Ask I) → y ≡ after-asks x l → y .fills [] a ≡ x .fills l a
+fills-after x l y a e = ap (λ q. q .fills [] a) e ∙ (after-fills x l [] a ∙ ap (λ k. x .fills k a) (append-nil l))
+
 pub after-ready : {I : Type 0} (x : Exchange I) (l : List (Ask I)) (n w : ℕ) → Ready x n w → Ready (after-asks x l) n w
 after-ready x [] n w r = r
 after-ready x (b ∷ l) n w r = after-ready (after-ask x b) l n w (record { fit = r .fit; same = r .same; space = r .space })
@@ -127,11 +130,8 @@ module _ {L : Type 0} (x : Exchange (Slip L)) (n : ℕ) (slots : List (Slot L)) 
       h ∙ (ap (λ q. after-ask q (firm (column n slots g))) e
       ∙ (sym (after-snoc x (firsts n slots g) (firm (column n slots g))) ∙ ap (λ k. after-asks x (firsts n slots k)) (sym (add-one g))))
 
-  pub fills-at : (g : ℕ) (y : Exchange (Slip L)) (a : Ask (Slip L)) → y ≡ after-asks x (firsts n slots g) → y .fills [] a ≡ x .fills (firsts n slots g) a
-  fills-at g y a e = ap (λ q. q .fills [] a) e ∙ (after-fills x (firsts n slots g) [] a ∙ ap (λ l. x .fills l a) (append-nil (firsts n slots g)))
-
   pub filled-more : (g : ℕ) (y : Exchange (Slip L)) (before now : List (Slot L)) → y ≡ after-asks x (firsts n slots g) → Filled x n slots g before → take (g * (n * n)) now ≡ take (g * (n * n)) before → take (n * n) (drop (g * (n * n)) now) ≡ y .fills [] (firm (column n slots g)) → Filled x n slots (g + 1) now
   filled-more g y before now e was kept here =
       below-more (λ c. take (n * n) (drop (c * (n * n)) now) ≡ x .fills (firsts n slots c) (firm (column n slots c))) g
       (λ c lt. part-below before now (c * (n * n)) (n * n) (g * (n * n)) (next-within c g (n * n) (g * (n * n)) lt (omega arith)) kept ∙ was c lt)
-      (here ∙ fills-at g y (firm (column n slots g)) e)
+      (here ∙ fills-after x (firsts n slots g) y (firm (column n slots g)) e)

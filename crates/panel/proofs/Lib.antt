@@ -6,6 +6,7 @@ pub mod Safe
 pub mod Sure
 pub mod Phases
 pub mod Hearing
+pub mod Running
 pub mod Histories
 pub mod Choosing
 pub mod Examples

@@ -101,6 +101,9 @@ pub record Lengths : Type 0 where
   pub picks : ℕ
   pub workspace : ℕ
 
+abbrev pub sizes : ℕ → ℕ → ℕ → Lengths
+sizes h p w = record { heard = h; picks = p; workspace = w }
+
 -- a call on a panel
 pub data Event (L : Type 0) : Type 0 where
   fit : ℕ → ℕ → Event L

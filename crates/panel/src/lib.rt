@@ -1,4 +1,5 @@
 // Agreement of boards on a label.
+mod calls;
 mod counting;
 mod held;
 mod memory;
