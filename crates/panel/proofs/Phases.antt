@@ -172,7 +172,7 @@ module _ {L : Type 0} (o : Comparison L) (n t f : ℕ) (x : Exchange (Slip L)) (
   verdict-at q lq =
       at-decided q 9 lq (omega arith)
       ∙ ap (λ u. or-else u (with-phase f (enough o n (2 * t + 1) f (estimate-row o n t f x slots q))))
-        (at-estimated q 9 lq (omega arith) ∙ picked-other q 9 lq (omega arith) (λ e. omega arith))
+      (at-estimated q 9 lq (omega arith) ∙ picked-other q 9 lq (omega arith) (λ e. omega arith))
 
   pub pick-at : (q : ℕ) → q < n → at (decided o n t f x slots) q f ≡ new-pick o n t f x slots q
   pick-at q lq = middle-at q f lq late early ∙ cond-true (eqb f f) _ _ (eq-eqb f f refl)

@@ -107,9 +107,9 @@ module _ {L : Type 0} {o : Comparison L} (T : Total o) (n t f : ℕ) (x : Exchan
   picks-chosen chosen e =
       e ∙ put-same f _ (new-pick o n t f x slots) slots n (λ p lp. ap (with-phase f)
       (choice-same T n t f (row-at after-keep (p * n)) (λ q. as-claim f (firm-row o n t f x slots p 0 q)) (block-row n p after-keep) (λ g q. as-pick g (firm-row o n t f x slots p g q))
-        (λ q s h. claim-from f (firm-row o n t f x slots p 0 q) s h .1)
-        (λ q lq. claim-at p q lp lq)
-        (λ v g q pos lg lq. ap (is-slip o v g) (pick-at g p q pos lg lp lq) ∙ slip-pick o v g (firm-row o n t f x slots p g q))))
+      (λ q s h. claim-from f (firm-row o n t f x slots p 0 q) s h .1)
+      (λ q lq. claim-at p q lp lq)
+      (λ v g q pos lg lq. ap (is-slip o v g) (pick-at g p q pos lg lp lq) ∙ slip-pick o v g (firm-row o n t f x slots p g q))))
 
 -- the whole phase
 module _ {L : Type 0} (o : Comparison L) (n t f : ℕ) (x : Exchange (Slip L)) (slots : List (Slot L)) where
@@ -141,9 +141,10 @@ module _ {L : Type 0} (o : Comparison L) (n t f : ℕ) (x : Exchange (Slip L)) (
   unfolding asks
   ran y z w s₁ s₂ s₃ ey e₁ e₂ ez e₃ ew =
       let f₂ : s₂ ≡ estimated o n t f x slots = e₂ ∙ (ap (adopt-from y) e₁ ∙ adopted y ey) in
-      let fz : z ≡ after-asks x (firsts n slots f ++ (send-picks ∷ [])) = ez ∙ (ap (λ s. after-ask y (plain (column n s f))) e₁ ∙ (ap (λ u. after-ask u send-picks) ey ∙ sym (after-snoc x (firsts n slots f) send-picks))) in
-      ( e₃ ∙ (ap (settle-from z) f₂ ∙ settled z fz)
-      , ew ∙ (ap (λ s. after-ask z (plain (column n s 0))) f₂ ∙ (ap (λ u. after-ask u send-estimates) fz ∙ (sym (after-snoc x (firsts n slots f ++ (send-picks ∷ [])) send-estimates) ∙ ap (after-asks x) (append-assoc (firsts n slots f) (send-picks ∷ []) (send-estimates ∷ []))))) )
+      let fz : z ≡ after-asks x (firsts n slots f ++ (send-picks ∷ [])) = ez ∙ (ap (λ s. after-ask y (plain (column n s f))) e₁ ∙ (ap (λ u. after-ask u send-picks) ey ∙ sym (after-snoc x (firsts n slots f) send-picks))) in (
+        e₃ ∙ (ap (settle-from z) f₂ ∙ settled z fz),
+        ew ∙ (ap (λ s. after-ask z (plain (column n s 0))) f₂ ∙ (ap (λ u. after-ask u send-estimates) fz ∙ (sym (after-snoc x (firsts n slots f ++ (send-picks ∷ [])) send-estimates) ∙ ap (after-asks x) (append-assoc (firsts n slots f) (send-picks ∷ []) (send-estimates ∷ []))))),
+      )
 
 -- the exchange after a plain one that is not refused
 pub plain-ready : {I : Type 0} (y z : Exchange I) (a : List (Option I)) (n : ℕ) → z ≡ after-ask y (plain a) → Ready y n (y .workspace) → Ready z n (z .workspace)

@@ -29,6 +29,7 @@ use labels::slip::Slip;
 
 // the most phases that a panel runs, and the last round number
 const PHASES: u8 = 8;
+
 const LAST_ROUND: usize = 65_535;
 
 // Whether n boards serve where t of them may be bad.
@@ -192,5 +193,41 @@ impl<'a, L: Ordered> Panel<'a, L> {
             return Err(Refusal::RoundLimit);
         }
         Ok(size)
+    }
+
+    // Runs the next phase. The blocks have room for what is heard, n * n slots, for what was heard of
+    // the estimates and the earlier picks, 8 * n * n, and for the exchange's workspace. What they
+    // hold there afterwards is free; past that they are left as they were.
+    pub fn phase<E: Exchange<Slip<L>>>(
+        &mut self,
+        exchange: &mut E,
+        heard: &mut [Option<Slip<L>>],
+        picks: &mut [Option<Slip<L>>],
+        work: &mut [Option<Slip<L>>],
+    ) -> Result<(), Refusal>
+        ensures answer { λ r. ⌜ Answers (refusal (state (now (self .entry))) (phase (meaning (now (exchange .entry))) (sizes (length (now (heard .entry))) (length (now (picks .entry))) (length (now (work .entry)))))) r ⌝ }
+        ensures next { λ _. ⌜ state (now (self .exit)) ≡ step order (state (now (self .entry))) (phase (meaning (now (exchange .entry))) (sizes (length (now (heard .entry))) (length (now (picks .entry))) (length (now (work .entry))))) ⌝ }
+        ensures unaltered { λ r. ⌜ Unaltered r (now (self .entry)) (now (self .exit)) ⌝ }
+        ensures exchanged { λ r. ⌜ Exchanged order meaning (state (now (self .entry))) (now (exchange .entry)) (now (exchange .exit)) r ⌝ }
+        ensures heard { λ r. ⌜ Kept (state (now (self .entry)) .boards * state (now (self .entry)) .boards) (now (heard .entry)) (now (heard .exit)) r ⌝ }
+        ensures picks { λ r. ⌜ Kept (8 * (state (now (self .entry)) .boards * state (now (self .entry)) .boards)) (now (picks .entry)) (now (picks .exit)) r ⌝ }
+        ensures work { λ r. ⌜ Kept (meaning (now (exchange .entry)) .workspace) (now (work .entry)) (now (work .exit)) r ⌝ }
+    {
+        let size = self.admit(exchange, heard.len(), picks.len(), work.len())?;
+        let n = size.boards as usize;
+        let space = exchange.workspace();
+        let phase = self.phases + 1;
+        run_phase(
+            self.slots,
+            n,
+            size.faults as usize,
+            phase,
+            exchange,
+            &mut heard[0..n * n],
+            &mut picks[0..8 * (n * n)],
+            &mut work[0..space],
+        );
+        self.phases = phase;
+        Ok(())
     }
 }

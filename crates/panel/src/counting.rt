@@ -89,7 +89,11 @@ fn oftener_of<L: Ordered>(
     let Some(y) = b else {
         return Some(x);
     };
-    if is_oftener(claims, start, n, x, y) { Some(x) } else { Some(y) }
+    if is_oftener(claims, start, n, x, y) {
+        Some(x)
+    } else {
+        Some(y)
+    }
 }
 
 // A claim of the label heard most often.
@@ -147,7 +151,13 @@ pub(crate) fn heard_often<L: Ordered>(
 
 // Whether a claim of board p's row stands, by the claims and by the picks of its phase. The blocks
 // hold what was heard of the claims, and of the picks of each phase.
-fn stands_up<L: Ordered>(n: usize, t: usize, blocks: &[Option<Slip<L>>], p: usize, s: Slip<L>) -> bool
+fn stands_up<L: Ordered>(
+    n: usize,
+    t: usize,
+    blocks: &[Option<Slip<L>>],
+    p: usize,
+    s: Slip<L>,
+) -> bool
     requires small { ⌜ n ≤ 7 ⌝ }
     requires fewer { ⌜ t ≤ n ⌝ }
     requires within { ⌜ p < n ⌝ }
@@ -179,11 +189,20 @@ fn if_standing<L: Ordered>(
     let Some(s) = slot else {
         return None;
     };
-    if stands_up(n, t, blocks, p, s) { Some(s) } else { None }
+    if stands_up(n, t, blocks, p, s) {
+        Some(s)
+    } else {
+        None
+    }
 }
 
 // The standing claim of the greatest number, with the smallest label there.
-fn best_standing<L: Ordered>(n: usize, t: usize, blocks: &[Option<Slip<L>>], p: usize) -> Option<Slip<L>>
+fn best_standing<L: Ordered>(
+    n: usize,
+    t: usize,
+    blocks: &[Option<Slip<L>>],
+    p: usize,
+) -> Option<Slip<L>>
     requires small { ⌜ n ≤ 7 ⌝ }
     requires fewer { ⌜ t ≤ n ⌝ }
     requires within { ⌜ p < n ⌝ }
@@ -198,7 +217,12 @@ fn best_standing<L: Ordered>(n: usize, t: usize, blocks: &[Option<Slip<L>>], p: 
 }
 
 // The label that board p chooses.
-pub(crate) fn choose<L: Ordered>(n: usize, t: usize, blocks: &[Option<Slip<L>>], p: usize) -> Option<L>
+pub(crate) fn choose<L: Ordered>(
+    n: usize,
+    t: usize,
+    blocks: &[Option<Slip<L>>],
+    p: usize,
+) -> Option<L>
     requires small { ⌜ n ≤ 7 ⌝ }
     requires fewer { ⌜ t ≤ n ⌝ }
     requires within { ⌜ p < n ⌝ }

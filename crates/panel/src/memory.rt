@@ -12,15 +12,15 @@ use labels::slip::Slip;
 pub(crate) fn slot_at<L: Copy>(slots: &[Option<Slip<L>>], place: usize) -> Option<Slip<L>>
     ensures { λ r. ⌜ r ≡ getD (now (slots .entry)) place None ⌝ }
 {
-    if place < slots.len() { slots[place] } else { None }
+    if place < slots.len() {
+        slots[place]
+    } else {
+        None
+    }
 }
 
 // Writes a slot; past the end there is none to write.
-pub(crate) fn put_slot<L: Copy>(
-    slots: &mut [Option<Slip<L>>],
-    place: usize,
-    slot: Option<Slip<L>>,
-)
+pub(crate) fn put_slot<L: Copy>(slots: &mut [Option<Slip<L>>], place: usize, slot: Option<Slip<L>>)
     ensures { λ _. ⌜ now (slots .exit) ≡ set (now (slots .entry)) place slot ⌝ }
 {
     if place < slots.len() {

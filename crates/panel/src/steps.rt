@@ -22,6 +22,7 @@ use labels::slip::Slip;
 
 // where a board keeps its estimate and its verdict
 pub(crate) const ESTIMATE: usize = 0;
+
 pub(crate) const VERDICT: usize = 9;
 
 // The pick of one board.

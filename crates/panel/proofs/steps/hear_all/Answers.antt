@@ -25,9 +25,10 @@ pub loop-g-again : need.loop-g-again
 loop-g-again g c =
     let x = g .E·Exchange .meaning (c .args .exchange .now) in
     let y = g .E·Exchange .meaning (c .loop-g .exchange) in
-    let h = c .hear-block .ensures in
-    ( asked-more x (c .args .n) (c .args .slots .now) (c .loop-g .g) y _ (c .loop-g .inv .0) (h .leaves)
-    , filled-more x (c .args .n) (c .args .slots .now) (c .loop-g .g) y (c .loop-g .blocks) (c .hear-block .last .blocks) (c .loop-g .inv .0) (c .loop-g .inv .1) (h .before) (h .here) )
+    let h = c .hear-block .ensures in (
+      asked-more x (c .args .n) (c .args .slots .now) (c .loop-g .g) y _ (c .loop-g .inv .0) (h .leaves),
+      filled-more x (c .args .n) (c .args .slots .now) (c .loop-g .g) y (c .loop-g .blocks) (c .hear-block .last .blocks) (c .loop-g .inv .0) (c .loop-g .inv .1) (h .before) (h .here),
+    )
 
 pub returns : need.returns
 returns g c =
