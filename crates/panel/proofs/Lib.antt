@@ -1,0 +1,15 @@
+pub mod Counts
+pub mod Slips
+pub mod Rows
+pub mod Chosen
+pub mod Safe
+pub mod Sure
+pub mod Phases
+pub mod Hearing
+pub mod Running
+pub mod Histories
+pub mod Choosing
+pub mod Examples
+pub mod Told
+pub mod Loops
+pub mod Ending

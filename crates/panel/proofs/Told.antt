@@ -1,0 +1,49 @@
+-- What a panel promises as it answers.
+use mathlib.Core.Path.{_≡_, refl, sym, ap, subst, _∙_}
+use mathlib.Core.Bool.{Bool, true, false, cond, not}
+use mathlib.Core.List.{List}
+use Prim.Native.Nat.{ℕ, _<_, _≤_}
+use native.Mathlib.Omega.{arith}
+use lib.Dec.{ltb, leb}
+use Rattle.std.proofs.shelf.Tests.{leb-false, lt-ltb, lt-leb, cond-false}
+use Rattle.std.specs.declared.option.Option.{Option}
+use Rattle.std.specs.declared.option.Option.the-variants.{Some, None}
+use Rattle.std.specs.declared.result.Result.{Result}
+use Rattle.std.specs.declared.result.Result.the-variants.{Ok, Err}
+use Rattle.labels.specs.declared.refusal.Refusal.{Refusal}
+use Rattle.labels.specs.declared.slip.Slip.{Slip}
+use Rattle.labels.specs.Order.{Total}
+use Rattle.labels.specs.Refusals.{row}
+use Rattle.panel.specs.Slots.{Slot, Comparison, label-of}
+use Rattle.panel.specs.Panel.{State, at, Event, verdict, table, refusal, after, Answers-with}
+use Rattle.panel.specs.Settled.{Holds, Promised}
+use Rattle.panel.proofs.Slips.{none≢some, label-from}
+use Rattle.panel.proofs.Phases.{none-fits}
+use Rattle.panel.proofs.Histories
+
+module _ {L : Type 0} (s : State L) (q : ℕ) where
+  -- the board holds v in this state
+  abbrev Here : L → Type 0
+  Here v = (r : Slip L) × ((q < s .boards) × (at (s .slots) q 9 ≡ Some r)) × (r .label ≡ v)
+
+  accepted : q < s .boards → refusal s (verdict q) ≡ None
+  accepted l =
+      cond-false (not (ltb 0 (s .boards))) _ _ (ap not (lt-ltb 0 (s .boards) (omega arith)))
+      ∙ cond-false (leb (s .boards) q) _ _ (lt-leb (s .boards) q l)
+
+  there : (r : Result (Option L) Refusal) → Answers-with (refusal s (verdict q)) (label-of (at (s .slots) q 9)) r → (v : L) → r ≡ Ok (Some v) → Here v
+  there r a v e =
+      let b : (refusal s (verdict q) ≡ None) × (Some v ≡ label-of (at (s .slots) q 9)) = subst (Answers-with (refusal s (verdict q)) (label-of (at (s .slots) q 9))) e a in
+      let l = leb-false _ _ (none-fits (table s (verdict q)) (b .0) .1 .0) in
+      let k = label-from (at (s .slots) q 9) v (sym (b .1)) in
+      (k .0, (l, k .1), k .2)
+
+  back : (r : Result (Option L) Refusal) → Answers-with (refusal s (verdict q)) (label-of (at (s .slots) q 9)) r → (v : L) → Here v → r ≡ Ok (Some v)
+  back (Ok b) a v h = ap Ok (a .1 ∙ (ap label-of (h .1 .1) ∙ ap Some (h .2)))
+  back (Err e) a v h = absurd (none≢some (row e) (sym (accepted (h .1 .0)) ∙ a))
+
+pub promised : {L : Type 0} {o : Comparison L} → Total o → (s : State L) (q : ℕ) (r : Result (Option L) Refusal) → Answers-with (refusal s (verdict q)) (label-of (at (s .slots) q 9)) r → Promised o s q r
+promised {L} {o} T s q r a = record {
+  always = Histories.settled o T;
+  told = λ m h e v. ((λ k. subst (λ u. Here u q v) e (there s q r a v k)), λ k. back s q r a v (subst (λ u. Here u q v) (sym e) k));
+}
