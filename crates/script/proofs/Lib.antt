@@ -1,0 +1,10 @@
+pub mod Follow
+pub mod Back
+pub mod Leaves
+pub mod Loops
+pub mod Moves
+pub mod Putting
+pub mod Counting
+pub mod Storing
+pub mod Surveys
+pub mod Outputs

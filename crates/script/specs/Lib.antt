@@ -1,0 +1,7 @@
+pub mod Readers
+pub mod Fields
+pub mod Header
+pub mod Entries
+pub mod Script
+pub mod Memory
+pub mod Passes

@@ -1,0 +1,13 @@
+// Scripts: what the boards propose and what goes wrong between them, as bytes and in memory.
+mod fields;
+mod forming;
+mod heads;
+pub mod model;
+pub mod reading;
+mod records;
+mod refusing;
+mod rows;
+mod store;
+mod survey;
+mod tally;
+pub mod writing;
