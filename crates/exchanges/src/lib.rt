@@ -2,7 +2,7 @@
 pub mod backplane;
 pub mod cut_lines;
 pub mod exchange;
-mod maps;
+pub mod maps;
 mod path;
 mod plain;
 mod rounds;

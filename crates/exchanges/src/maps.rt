@@ -3,7 +3,7 @@ ghost use mathlib.Core.Path.{_≡_};
 ghost use Rattle.exchanges.specs.Boards.{bit};
 
 // Whether the map has the board.
-pub(crate) fn has(map: u8, board: usize) -> bool
+pub fn has(map: u8, board: usize) -> bool
     ensures { λ r. ⌜ r ≡ bit map board ⌝ }
 {
     if board >= 8 {

@@ -8,3 +8,6 @@ pub mod Counting
 pub mod Storing
 pub mod Surveys
 pub mod Outputs
+pub mod Tables
+pub mod Scripts
+pub mod Obeying

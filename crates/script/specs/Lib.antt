@@ -5,3 +5,6 @@ pub mod Entries
 pub mod Script
 pub mod Memory
 pub mod Passes
+pub mod ScriptAnswers
+pub mod Obeys
+pub mod ScriptPlane
