@@ -1,11 +1,11 @@
 -- The choice and the counts keep their laws.
 use mathlib.Core.Path.{_≡_, refl, sym, ap, subst, _∙_}
-use mathlib.Core.Bool.{Bool, true, false, cond, not, _&&_, _||_}
+use mathlib.Core.Bool.{Bool, true, false, cond, not}
 use mathlib.Core.Logic.{_⊎_, inl, inr}
-use Prim.Native.Nat.{ℕ, zero, suc, _+_, _-_, _≤_, _<_}
+use Prim.Native.Nat.{ℕ, _+_, _-_, _≤_, _<_}
 use native.Mathlib.Omega.{arith}
-use lib.Dec.{ltb, leb, eqb}
-use Rattle.std.proofs.shelf.Tests.{or-left, or-right, lt-ltb, cases-lt, and-parts, and-from, eqb-true, eq-eqb, leb-true, le-leb, lt-leb, true≢false, cond-true}
+use lib.Dec.{leb, eqb}
+use Rattle.std.proofs.shelf.Tests.{or-left, or-right, lt-ltb, cases-lt, and-parts, and-from, eqb-true, eq-eqb, leb-true, le-leb, lt-leb, true≢false}
 use Rattle.std.specs.Options.{isSome}
 use Rattle.std.specs.declared.option.Option.{Option}
 use Rattle.std.specs.declared.option.Option.the-variants.{Some, None}
@@ -20,7 +20,7 @@ use Rattle.std.specs.Orderings.{isLt}
 use Rattle.labels.specs.Order.{Total}
 use Rattle.panel.specs.Laws.{Many, Claims, Stands, Says, Open, Chooses, Smallest, Laws}
 use Rattle.panel.proofs.Counts.{some-board, count-mono}
-use Rattle.panel.proofs.Slips.{Strict, smaller-strict, slip, none≢some, some-inj, same-refl, is-true, is-made, has-true, has-made, only-from, only-made, claim-from, claim-made, pick-from, pick-made, supports-from, unphased-from}
+use Rattle.panel.proofs.Slips.{Strict, smaller-strict, slip, same-refl, is-true, is-made, has-true, has-made, only-from, only-made, claim-from, claim-made, pick-from, pick-made, supports-from, unphased-from}
 use Rattle.panel.proofs.Rows.{Ahead, ahead-true, best-from, best-some, best-top, level-same}
 use Rattle.panel.proofs.Chosen.{Standing, often-strict, stood, stood-test}
 

@@ -1,21 +1,20 @@
 -- What the choice and the counts of a board tell of the rows that it heard, and when there is one.
-use mathlib.Core.Path.{_≡_, refl, sym, ap, subst, _∙_}
-use mathlib.Core.Bool.{Bool, true, false, cond, not, _&&_, _||_}
+use mathlib.Core.Path.{_≡_, refl, ap, subst, _∙_}
+use mathlib.Core.Bool.{Bool, true, false, cond, _&&_, _||_}
 use mathlib.Core.Logic.{_⊎_, inl, inr}
-use Prim.Native.Nat.{ℕ, zero, suc, _+_, _-_, _≤_, _<_}
+use Prim.Native.Nat.{ℕ, _+_, _-_, _≤_, _<_}
 use native.Mathlib.Omega.{arith}
 use lib.Dec.{ltb, leb, eqb}
-use Rattle.std.proofs.shelf.Tests.{and-parts, and-from, or-cases, or-parts, eqb-true, eq-eqb, ltb-true, ltb-false, lt-ltb, leb-true, le-leb, false≢true, true≢false, cond-true, cases-lt}
+use Rattle.std.proofs.shelf.Tests.{and-parts, and-from, eq-eqb, ltb-true, lt-ltb, leb-true, le-leb, false≢true, cases-lt}
 use Rattle.std.specs.Options.{isSome}
-use Rattle.std.specs.declared.option.Option.{Option}
 use Rattle.std.specs.declared.option.Option.the-variants.{Some, None}
 use Rattle.exchanges.specs.Boards.{count}
-use Rattle.panel.specs.Slots.{Comparison, same, Slot, has-label, is-slip, with-phase, label-of}
+use Rattle.panel.specs.Slots.{Comparison, Slot, has-label, is-slip, label-of}
 use Rattle.labels.specs.declared.slip.Slip.{Slip}
-use Rattle.panel.specs.Phase.{Row, best, only, supports, unphased, stands, ahead, later, wins-often, times, standing, most-often, fallback, choice-of, heard-enough, enough}
+use Rattle.panel.specs.Phase.{Row, only, supports, unphased, stands, ahead, later, wins-often, times, standing, most-often, fallback, choice-of, heard-enough, enough}
 use Rattle.labels.specs.Order.{Total}
-use Rattle.panel.proofs.Counts.{count-mono, count-same, some-board, count-none}
-use Rattle.panel.proofs.Slips.{Strict, smaller-strict, slip, none≢some, some-inj, is-true, is-made, has-true, has-made, only-from, only-made, label-from}
+use Rattle.panel.proofs.Counts.{count-same, some-board}
+use Rattle.panel.proofs.Slips.{Strict, smaller-strict, slip, none≢some, some-inj, is-true, has-true, only-from, only-made, label-from}
 use Rattle.panel.proofs.Rows.{best-from, best-some, best-most, best-same, ahead-up, ahead-down}
 
 -- a claim of the row that stands

@@ -1,8 +1,7 @@
 -- Counts of boards: bounds, and boards that two counts have in common.
-use mathlib.Core.Path.{_≡_, refl, sym, ap, subst, _∙_}
-use mathlib.Core.Bool.{Bool, true, false, cond, _&&_, _||_}
+use mathlib.Core.Path.{_≡_, refl, sym, ap, _∙_}
+use mathlib.Core.Bool.{Bool, true, false, cond, _||_}
 use Prim.Native.Nat.{ℕ, zero, suc, _+_, _≤_, _<_}
-use native.Mathlib.Numerals.{add-one}
 use native.Mathlib.Omega.{arith}
 use mathlib.Core.Logic.{_⊎_, inl, inr}
 use Rattle.std.proofs.shelf.Tests.{cases-eq, true≢false}
@@ -128,10 +127,3 @@ count-all P n h q l = go (P q) refl
     go : (b : Bool) → P q ≡ b → P q ≡ true
     go true e = e
     go false e = absurd (count-all-go P n h q l e)
-
--- a loop that counts: one board more
-pub count-more-true : (P : ℕ → Bool) (i m m′ : ℕ) → m ≡ count P i → m′ ≡ m + 1 → P i ≡ true → m′ ≡ count P (i + 1)
-count-more-true P i m m′ h e k = rw add-one (let b : bit (P i) ≡ 1 = ap bit k in omega arith)
-
-pub count-more-false : (P : ℕ → Bool) (i m m′ : ℕ) → m ≡ count P i → m′ ≡ m → P i ≡ false → m′ ≡ count P (i + 1)
-count-more-false P i m m′ h e k = rw add-one (let b : bit (P i) ≡ 0 = ap bit k in omega arith)

@@ -1,6 +1,6 @@
 -- How a phase ends: refused, or run.
 use mathlib.Core.Path.{_≡_, refl, sym, ap, subst, _∙_}
-use mathlib.Core.Bool.{Bool, true, false, cond, _||_}
+use mathlib.Core.Bool.{cond}
 use mathlib.Core.List.{List}
 use Prim.Native.Nat.{ℕ, _+_, _-_, _*_, _≤_}
 use native.Mathlib.Omega.{arith}
@@ -14,14 +14,14 @@ use Rattle.std.specs.Options.{isSome}
 use Rattle.std.specs.declared.option.Option.{Option}
 use Rattle.std.specs.declared.option.Option.the-variants.{Some, None}
 use Rattle.std.specs.declared.result.Result.{Result}
-use Rattle.std.specs.declared.result.Result.the-variants.{Ok, Err}
+use Rattle.std.specs.declared.result.Result.the-variants.{Err}
 use Rattle.labels.specs.declared.refusal.Refusal.{Refusal}
 use Rattle.labels.specs.declared.slip.Slip.{Slip}
 use Rattle.labels.specs.Refusals.{row}
 use Rattle.exchanges.specs.Exchange.{Exchange}
 use Rattle.exchanges.specs.Asked.{Kept}
 use Rattle.panel.specs.Slots.{Slot, Comparison}
-use Rattle.panel.specs.Panel.{State, Event, Lengths, phase, table, refusal, step, change, phased, decided, asks, after-asks, Answers, Unaltered, Exchanged}
+use Rattle.panel.specs.Panel.{State, Event, Lengths, phase, table, refusal, step, change, decided, asks, after-asks, Answers, Unaltered, Exchanged}
 use Rattle.panel.specs.declared.size.Size.{Size}
 use Rattle.panel.specs.Modelled.{boards-of, faults-of}
 use Rattle.panel.proofs.Phases.{none-fits}

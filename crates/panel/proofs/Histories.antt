@@ -1,14 +1,13 @@
 -- The promises over whole histories.
 use mathlib.Core.Path.{_≡_, refl, sym, ap, subst, _∙_}
-use mathlib.Core.Bool.{Bool, true, false, cond, not, _&&_, _||_}
+use mathlib.Core.Bool.{Bool, true, cond, not, _&&_}
 use mathlib.Core.List.{List, [], _∷_, _++_, append-assoc, append-nil}
 use mathlib.Core.Logic.{_⊎_, inl, inr}
-use Prim.Native.Nat.{ℕ, zero, suc, _+_, _-_, _*_, _≤_, _<_}
+use Prim.Native.Nat.{ℕ, _+_, _-_, _*_, _≤_, _<_}
 use native.Mathlib.Omega.{arith}
-use lib.Dec.{ltb, leb, eqb}
 use lib.ListN.{getD, set, length, replicate, drop}
 use Rattle.std.proofs.shelf.Lists.{getD-set-same, getD-set-other, getD-replicate, getD-append-left, length-replicate, length-append, length-drop, length-set}
-use Rattle.std.proofs.shelf.Tests.{and-parts, not-false, eqb-true, eqb-false, eq-eqb, ne-eqb, ltb-true, ltb-false, leb-false, false≢true, true≢false, cond-true, cond-false, cond-both, cases-eq, cases-lt}
+use Rattle.std.proofs.shelf.Tests.{not-false, ltb-false, leb-false, true≢false, cases-eq}
 use Rattle.std.specs.Options.{isSome}
 use Rattle.std.specs.declared.option.Option.{Option}
 use Rattle.std.specs.declared.option.Option.the-variants.{Some, None}
@@ -19,12 +18,12 @@ use Rattle.panel.specs.Slots.{Comparison, Slot, with-phase, or-else}
 use Rattle.labels.specs.declared.slip.Slip.{Slip}
 use Rattle.panel.specs.Phase.{enough}
 use Rattle.panel.specs.Panel.{State, at, Event, Lengths, fit, propose, phase, verdict, new, estimate-row, phased, table, refusal, change, step, run, after}
-use Rattle.panel.specs.Settled.{Accepted, Seals, Holds, Proposed, Trusty, Fair, Good, Settled-for, Settled}
+use Rattle.panel.specs.Settled.{Seals, Holds, Proposed, Trusty, Fair, Good, Settled}
 use Rattle.panel.proofs.Counts.{some-board}
 use Rattle.panel.proofs.Slips.{slip, none≢some, some-inj}
-use Rattle.panel.proofs.Safe.{Phase, Safe, Valid, Locked, safe-on, keeper, keeps-to}
-use Rattle.panel.proofs.Sure.{Lossless, valid-on, sure}
-use Rattle.panel.proofs.Phases.{none-fits, Allowed, allowed, decided-length, estimate-at, verdict-at, the-phase, lossless}
+use Rattle.panel.proofs.Safe.{Safe, Valid, safe-on, keeper, keeps-to}
+use Rattle.panel.proofs.Sure.{valid-on, sure}
+use Rattle.panel.proofs.Phases.{none-fits, allowed, decided-length, estimate-at, verdict-at, the-phase, lossless}
 
 module _ {L : Type 0} (o : Comparison L) where
   pub run-append : (s : State L) (h k : List (Event L)) → run o s (h ++ k) ≡ run o (run o s h) k

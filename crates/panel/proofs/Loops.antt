@@ -1,8 +1,8 @@
 -- Steps of the loops.
 use mathlib.Core.Path.{_≡_, refl, sym, ap, _∙_}
-use mathlib.Core.Bool.{Bool, true, false, cond, _&&_}
+use mathlib.Core.Bool.{Bool, true, false, cond}
 use mathlib.Core.List.{List, [], _∷_, _++_, map, append-nil}
-use Prim.Native.Nat.{ℕ, suc, _+_, _*_, _<_, _≤_}
+use Prim.Native.Nat.{ℕ, _+_, _*_, _<_, _≤_}
 use native.Mathlib.Numerals.{add-one}
 use native.Mathlib.Omega.{arith}
 use mir.Val.{boolByte}
@@ -62,7 +62,3 @@ module _ {X : Type 0} (f : X → X) (xs : List X) where
 
   pub mapping-all : (ys : List X) (i : ℕ) → ys ≡ map f (take i xs) ++ drop i xs → length xs ≤ i → ys ≡ map f xs
   mapping-all ys i was over = was ∙ ap (λ l. map f (take i xs) ++ l) (drop-all i xs over) ∙ append-nil (map f (take i xs)) ∙ ap (map f) (take-all i xs over)
-
--- where two tests hold, all depends on the third
-pub last-test : (a b k : Bool) → a ≡ true → b ≡ true → k ≡ (a && (b && k))
-last-test a b k e h = sym (ap (λ u. u && (b && k)) e ∙ ap (λ u. u && k) h)

@@ -1,15 +1,15 @@
 -- A phase that the panel accepts, as a phase of the argument.
 use mathlib.Core.Path.{_≡_, refl, sym, ap, subst, _∙_}
-use mathlib.Core.Bool.{Bool, true, false, cond, not, _&&_, _||_}
+use mathlib.Core.Bool.{Bool, true, false, cond, not, _&&_}
 use mathlib.Core.List.{List, [], _∷_, _++_, map}
 use mathlib.Core.Logic.{_⊎_, inl, inr}
-use Prim.Native.Nat.{ℕ, zero, suc, _+_, _-_, _*_, _/_, _%_, _≤_, _<_}
+use Prim.Native.Nat.{ℕ, zero, suc, _+_, _-_, _*_, _≤_, _<_}
 use native.Mathlib.Nat.{suc-mul, zero-mul, mul-le-mul-right}
 use native.Mathlib.Omega.{arith}
 use lib.Dec.{ltb, leb, eqb}
 use lib.ListN.{getD, length, set}
 use Rattle.std.proofs.shelf.Lists.{getD-set-same, getD-set-other, length-set}
-use Rattle.std.proofs.shelf.Tests.{and-parts, or-parts, not-false, eqb-true, eq-eqb, ne-eqb, ltb-true, ltb-false, lt-ltb, leb-true, leb-false, le-leb, false≢true, true≢false, cond-true, cond-false, cases-eq}
+use Rattle.std.proofs.shelf.Tests.{and-parts, not-false, eqb-true, eq-eqb, ne-eqb, ltb-true, ltb-false, leb-false, le-leb, false≢true, cond-true, cond-false, cases-eq}
 use Rattle.std.proofs.shelf.Counted.{getD-map-counting, length-map-counting}
 use Rattle.std.specs.Iters.{counting}
 use Rattle.std.specs.Options.{isSome}
@@ -20,12 +20,12 @@ use Rattle.exchanges.specs.Boards.{count, fits, Sound}
 use Rattle.labels.specs.Order.{Total}
 use Rattle.labels.specs.Refusals.{first-row}
 use Rattle.exchanges.specs.Exchange.{Exchange, Keeps, Goes, All-sized, Few, Ask, firm, plain, heard, sent, good, round-on, round-after, rounds}
-use Rattle.panel.specs.Slots.{Comparison, Slot, with-phase, label-of, or-else}
+use Rattle.panel.specs.Slots.{Comparison, Slot, with-phase, or-else}
 use Rattle.labels.specs.declared.slip.Slip.{Slip}
-use Rattle.panel.specs.Phase.{Row, choice, enough}
-use Rattle.panel.specs.Panel.{State, at, put, Event, Lengths, fit, propose, phase, verdict, column, firsts, firm-row, new-pick, picked, pick-row, new-estimate, estimated, estimate-row, new-verdict, decided, phased, fitted, table, refusal}
+use Rattle.panel.specs.Phase.{enough}
+use Rattle.panel.specs.Panel.{State, at, put, Lengths, fit, phase, column, firsts, firm-row, new-pick, picked, pick-row, new-estimate, estimated, estimate-row, new-verdict, decided, table, refusal}
 use Rattle.panel.proofs.Counts.{count-all, count-same}
-use Rattle.panel.proofs.Slips.{slip, none≢some, some-inj}
+use Rattle.panel.proofs.Slips.{none≢some}
 use Rattle.panel.proofs.Safe.{Phase, Safe}
 use Rattle.panel.proofs.Sure.{Lossless}
 

@@ -1,12 +1,11 @@
 -- What a board's choice and its counts tell of the rows that it heard.
 use mathlib.Core.Path.{_≡_, refl, sym, ap, subst, _∙_}
-use mathlib.Core.Bool.{Bool, true, false, cond, not, _&&_, _||_}
+use mathlib.Core.Bool.{Bool, true, false, cond, _&&_}
 use mathlib.Core.Logic.{_⊎_, inl, inr}
-use Prim.Native.Nat.{ℕ, zero, suc, _+_, _-_, _≤_, _<_}
+use Prim.Native.Nat.{ℕ, zero, suc, _-_, _≤_, _<_}
 use native.Mathlib.Omega.{arith}
-use lib.Dec.{ltb, leb, eqb}
+use lib.Dec.{ltb, eqb}
 use Rattle.std.proofs.shelf.Tests.{and-parts, and-from, or-cases, or-parts, or-left, or-right, eqb-true, eq-eqb, ltb-true, ltb-false, lt-ltb, true≢false, cases-eq}
-use Rattle.std.specs.declared.option.Option.{Option}
 use Rattle.std.specs.declared.option.Option.the-variants.{Some, None}
 use Rattle.panel.specs.Slots.{Slot}
 use Rattle.labels.specs.declared.slip.Slip.{Slip}

@@ -2,24 +2,24 @@
 use mathlib.Core.Path.{_≡_, refl, sym, ap, subst, _∙_}
 use mathlib.Core.Bool.{Bool, true, false, cond, _&&_}
 use mathlib.Core.List.{List, [], _∷_, _++_, map, append-assoc}
-use mathlib.Core.Logic.{_⊎_, inl, inr, ⊎-elim}
+use mathlib.Core.Logic.{_⊎_, ⊎-elim}
 use Prim.Native.Nat.{ℕ, zero, suc, _+_, _-_, _*_, _<_, _≤_}
 use native.Mathlib.Nat.{mul-le-mul-right, zero-mul, one-mul}
 use native.Mathlib.Omega.{arith}
 use borrow.Rule.Slice.PartMut.{putMid}
 use lib.Dec.{eqb, leb}
-use lib.ListN.{length, take, drop, getD, set, length-take, length-drop}
+use lib.ListN.{length, take, drop, getD, set}
 use Rattle.std.proofs.shelf.Bits.{mul-add-lt}
 use Rattle.std.proofs.shelf.Lists.{getD-append-left, getD-map, getD-take, getD-drop, length-map, length-take-le}
 use Rattle.std.proofs.shelf.Parts.{drop-putMid}
-use Rattle.std.proofs.shelf.Tests.{and-parts, cond-true, eqb-true, eq-eqb, le-leb, cases-lt, cases-eq}
+use Rattle.std.proofs.shelf.Tests.{and-parts, cond-true, eqb-true, le-leb, cases-lt}
 use Rattle.std.specs.declared.option.Option.{Option}
 use Rattle.std.specs.declared.option.Option.the-variants.{Some, None}
 use Rattle.labels.specs.declared.slip.Slip.{Slip}
 use Rattle.labels.specs.Order.{Total}
 use Rattle.exchanges.specs.Boards.{count}
 use Rattle.exchanges.specs.Plane.{last-round}
-use Rattle.exchanges.specs.Exchange.{Exchange, Ask, plain, firm, heard, round-on, after-ask}
+use Rattle.exchanges.specs.Exchange.{Exchange, Ask, plain, firm, heard, after-ask}
 use Rattle.panel.specs.Slots.{Slot, Comparison, same, is-slip, with-phase, label-of, or-else}
 use Rattle.panel.specs.Phase.{Row, as-claim, as-pick, later, only, heard-enough, best-heard, enough, choice-of, choice}
 use Rattle.panel.specs.Votes.{row-at, block-row}

@@ -1,21 +1,21 @@
 -- One phase: what holds of the sound boards before it holds after it.
 use mathlib.Core.Path.{_≡_, refl, sym, ap, subst, _∙_}
-use mathlib.Core.Bool.{Bool, true, false, cond, not, _&&_, _||_}
+use mathlib.Core.Bool.{Bool, true, false, not, _&&_, _||_}
 use mathlib.Core.Logic.{_⊎_, inl, inr}
-use Prim.Native.Nat.{ℕ, zero, suc, _+_, _-_, _*_, _≤_, _<_}
+use Prim.Native.Nat.{ℕ, _+_, _-_, _*_, _≤_, _<_}
 use native.Mathlib.Omega.{arith}
-use lib.Dec.{ltb, leb, eqb}
-use Rattle.std.proofs.shelf.Tests.{and-parts, and-from, or-cases, or-parts, or-left, or-right, not-true, not-from-false, eqb-true, eq-eqb, ltb-true, ltb-false, lt-ltb, leb-true, le-leb, false≢true, true≢false, cond-true, cases-lt, cases-eq}
+use lib.Dec.{leb}
+use Rattle.std.proofs.shelf.Tests.{and-parts, and-from, not-true, not-from-false, leb-true, le-leb, false≢true, true≢false, cases-lt, cases-eq}
 use Rattle.std.specs.declared.option.Option.{Option}
 use Rattle.std.specs.declared.option.Option.the-variants.{Some, None}
 use Rattle.exchanges.specs.Boards.{count, Sound}
 use Rattle.labels.specs.Order.{Total}
-use Rattle.panel.specs.Slots.{Comparison, same, Slot, has-label, is-slip, with-phase, label-of}
+use Rattle.panel.specs.Slots.{Comparison, same, Slot, is-slip, with-phase}
 use Rattle.labels.specs.declared.slip.Slip.{Slip}
-use Rattle.panel.specs.Phase.{Row, as-claim, as-pick, supports, unphased, times, choice-of, choice, enough}
+use Rattle.panel.specs.Phase.{Row, as-claim, as-pick, supports, unphased, choice-of, choice, enough}
 use Rattle.panel.specs.Slots.{or-else}
 use Rattle.panel.proofs.Counts.{count-mono, count-same, count-or, found, meet, share}
-use Rattle.panel.proofs.Slips.{slip, none≢some, some-inj, same-true, same-refl, is-true, is-made, has-true, has-made, claim-from, pick-from, phased-from, supports-from, unphased-from}
+use Rattle.panel.proofs.Slips.{slip, none≢some, some-inj, same-true, same-refl, is-true, claim-from, pick-from, phased-from, supports-from, unphased-from}
 use Rattle.panel.proofs.Chosen.{Standing, Reason, choice-reason, enough-from}
 
 -- what one phase, number f after F others, does to the slots, and what was heard in it

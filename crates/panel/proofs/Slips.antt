@@ -1,11 +1,10 @@
 -- Labels, slips and slots: what the tests on them tell.
 use mathlib.Core.Path.{_≡_, refl, sym, ap, subst, _∙_}
-use mathlib.Core.Bool.{Bool, true, false, cond, not, _&&_, _||_}
+use mathlib.Core.Bool.{Bool, true, false, cond}
 use mathlib.Core.Logic.{_⊎_, inl, inr}
-use Prim.Native.Nat.{ℕ, zero, suc, _+_, _≤_, _<_}
-use native.Mathlib.Omega.{arith}
-use lib.Dec.{ltb, leb, eqb}
-use Rattle.std.proofs.shelf.Tests.{or-cases, lt-ltb, and-parts, and-from, not-true, not-from-false, eqb-true, eq-eqb, ltb-true, false≢true, cond-true}
+use Prim.Native.Nat.{ℕ, _<_}
+use lib.Dec.{ltb, eqb}
+use Rattle.std.proofs.shelf.Tests.{or-cases, lt-ltb, and-parts, and-from, eqb-true, eq-eqb, ltb-true, false≢true, cond-true}
 use Rattle.std.specs.declared.option.Option.{Option}
 use Rattle.std.specs.declared.option.Option.the-variants.{Some, None}
 use Rattle.std.specs.declared.cmp.Ordering.{Ordering}

@@ -1,23 +1,21 @@
 -- One phase: a common proposal stays, and a phase without losses gives every sound board a verdict.
 use mathlib.Core.Path.{_≡_, refl, sym, ap, subst, _∙_}
-use mathlib.Core.Bool.{Bool, true, false, cond, not, _&&_, _||_}
+use mathlib.Core.Bool.{Bool, true, false, cond, _||_}
 use mathlib.Core.Logic.{_⊎_, inl, inr}
-use Prim.Native.Nat.{ℕ, zero, suc, _+_, _-_, _*_, _≤_, _<_}
+use Prim.Native.Nat.{ℕ, _+_, _-_, _*_, _≤_, _<_}
 use native.Mathlib.Omega.{arith}
-use lib.Dec.{ltb, leb, eqb}
-use Rattle.std.proofs.shelf.Tests.{or-left, or-right, eq-eqb, ltb-true, ltb-false, lt-ltb, false≢true, true≢false, cond-true, cond-false, cases-lt, cases-eq}
-use Rattle.std.specs.declared.option.Option.{Option}
+use lib.Dec.{ltb}
+use Rattle.std.proofs.shelf.Tests.{or-left, or-right, eq-eqb, ltb-true, ltb-false, lt-ltb, cond-false, cases-lt, cases-eq}
 use Rattle.std.specs.declared.option.Option.the-variants.{Some, None}
 use Rattle.exchanges.specs.Boards.{count, Sound}
-use Rattle.labels.specs.Order.{Total}
-use Rattle.panel.specs.Slots.{Comparison, same, Slot, has-label, is-slip, with-phase, label-of}
+use Rattle.panel.specs.Slots.{Comparison, same, Slot, has-label, is-slip, with-phase}
 use Rattle.labels.specs.declared.slip.Slip.{Slip}
-use Rattle.panel.specs.Phase.{Row, best, as-claim, as-pick, supports, unphased, times, choice-of, choice, enough}
+use Rattle.panel.specs.Phase.{Row, best, as-claim, as-pick, supports, unphased, choice-of, choice, enough}
 use Rattle.panel.specs.Slots.{or-else}
-use Rattle.panel.proofs.Counts.{count-mono, count-same, count-or, count-not}
-use Rattle.panel.proofs.Slips.{slip, none≢some, some-inj, same-true, same-refl, is-true, is-made, has-true, has-made, claim-from, claim-made, pick-made, unphased-from}
+use Rattle.panel.proofs.Counts.{count-mono, count-or, count-not}
+use Rattle.panel.proofs.Slips.{slip, none≢some, same-refl, is-true, is-made, has-true, has-made, claim-from, claim-made, pick-made, unphased-from}
 use Rattle.panel.proofs.Rows.{best-from, best-some, best-most}
-use Rattle.panel.proofs.Chosen.{Standing, Reason, choice-reason, choice-standing, choice-unphased, choice-same, enough-from, enough-some}
+use Rattle.panel.proofs.Chosen.{Reason, choice-reason, choice-standing, choice-unphased, choice-same, enough-from, enough-some}
 use Rattle.panel.proofs.Safe.{Phase, Quorum, Safe, Valid, sound-among, quorum-sound, quorum-unique, heard-claim, standing-pick, pick-choice, new-estimate, new-verdict, claims, picks, Set, Taken}
 
 module _ {L : Type 0} {o : Comparison L} {n t : ℕ} {bad : ℕ → Bool} {F f : ℕ} {old new : ℕ → ℕ → Slot L} (X : Phase o n t bad F f old new) (S : Safe o n t bad F old) where

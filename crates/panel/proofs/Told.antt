@@ -1,8 +1,7 @@
 -- What a panel promises as it answers.
-use mathlib.Core.Path.{_≡_, refl, sym, ap, subst, _∙_}
-use mathlib.Core.Bool.{Bool, true, false, cond, not}
-use mathlib.Core.List.{List}
-use Prim.Native.Nat.{ℕ, _<_, _≤_}
+use mathlib.Core.Path.{_≡_, sym, ap, subst, _∙_}
+use mathlib.Core.Bool.{not}
+use Prim.Native.Nat.{ℕ, _<_}
 use native.Mathlib.Omega.{arith}
 use lib.Dec.{ltb, leb}
 use Rattle.std.proofs.shelf.Tests.{leb-false, lt-ltb, lt-leb, cond-false}
@@ -14,9 +13,9 @@ use Rattle.labels.specs.declared.refusal.Refusal.{Refusal}
 use Rattle.labels.specs.declared.slip.Slip.{Slip}
 use Rattle.labels.specs.Order.{Total}
 use Rattle.labels.specs.Refusals.{row}
-use Rattle.panel.specs.Slots.{Slot, Comparison, label-of}
-use Rattle.panel.specs.Panel.{State, at, Event, verdict, table, refusal, after, Answers-with}
-use Rattle.panel.specs.Settled.{Holds, Promised}
+use Rattle.panel.specs.Slots.{Comparison, label-of}
+use Rattle.panel.specs.Panel.{State, at, verdict, table, refusal, Answers-with}
+use Rattle.panel.specs.Settled.{Promised}
 use Rattle.panel.proofs.Slips.{none≢some, label-from}
 use Rattle.panel.proofs.Phases.{none-fits}
 use Rattle.panel.proofs.Histories

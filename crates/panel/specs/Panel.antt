@@ -1,6 +1,6 @@
 -- A panel: its state, the calls on it, which of them are refused, and what the accepted ones change.
 use mathlib.Core.Path.{_≡_}
-use mathlib.Core.Bool.{Bool, true, false, cond, not, _&&_, _||_}
+use mathlib.Core.Bool.{Bool, cond, not, _&&_, _||_}
 use mathlib.Core.List.{List, [], _∷_, _++_, map}
 use Prim.Native.Nat.{ℕ, zero, suc, _+_, _-_, _*_}
 use lib.Dec.{ltb, leb, eqb}
@@ -17,7 +17,7 @@ use Rattle.labels.specs.declared.slip.Slip.{Slip}
 use Rattle.exchanges.specs.Boards.{count, fits}
 use Rattle.exchanges.specs.Plane.{last-round}
 use Rattle.exchanges.specs.Exchange.{Exchange, Ask, firm, plain, heard, after-ask}
-use Rattle.panel.specs.Slots.{Slot, Comparison, with-phase, label-of, or-else}
+use Rattle.panel.specs.Slots.{Slot, Comparison, with-phase, or-else}
 use Rattle.panel.specs.Phase.{Row, choice, enough}
 
 -- place 0 of a board is its estimate, place g from 1 to 8 its pick of phase g, place 9 its verdict

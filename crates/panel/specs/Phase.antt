@@ -1,5 +1,5 @@
 -- What one board works out from what it heard. A row gives what was heard from each board, and silence adds nothing.
-use mathlib.Core.Bool.{Bool, true, false, cond, _&&_, _||_}
+use mathlib.Core.Bool.{Bool, false, cond, _&&_, _||_}
 use Prim.Native.Nat.{ℕ, zero, suc, _+_, _-_}
 use lib.Dec.{ltb, leb, eqb}
 use Rattle.std.specs.Options.{isSome}

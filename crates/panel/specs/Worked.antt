@@ -1,6 +1,6 @@
 -- Cases settled by hand, with labels that are numbers.
 use mathlib.Core.Path.{_≡_}
-use mathlib.Core.Bool.{Bool, cond}
+use mathlib.Core.Bool.{cond}
 use mathlib.Core.List.{List, [], _∷_}
 use Prim.Native.Nat.{ℕ}
 use lib.Dec.{ltb, eqb}
@@ -8,9 +8,7 @@ use lib.ListN.{getD, replicate}
 use Rattle.std.specs.shelf.Lists.{All}
 use Rattle.std.specs.declared.option.Option.{Option}
 use Rattle.std.specs.declared.option.Option.the-variants.{Some, None}
-use Rattle.std.specs.declared.cmp.Ordering.{Ordering}
 use Rattle.std.specs.declared.cmp.Ordering.the-variants.{Less, Equal, Greater}
-use Rattle.labels.specs.declared.slip.Slip.{Slip}
 use Rattle.panel.specs.Slots.{Slot, Comparison}
 use Rattle.panel.specs.Phase.{choice}
 use Rattle.panel.specs.Panel.{new, fit, refusal}

@@ -1,26 +1,36 @@
 // The counts of one board over what it heard, and the choice that they lead to.
 ghost use mathlib.Core.Path.{_≡_};
-ghost use Prim.Native.Nat.{_<_, _≤_, _+_, _*_, _^_};
+ghost use Prim.Native.Nat.{_<_, _≤_, _+_, _-_, _*_, _^_};
+ghost use lib.Dec.{leb};
+ghost use Rattle.std.specs.declared.option.Option.the-variants.{Some};
 ghost use Rattle.exchanges.specs.Boards.{count};
-ghost use Rattle.panel.specs.Phase.{ahead, wins-often, later, better, only, times, most-often, stands, standing, choice-of, heard-enough, best-heard};
+ghost use Rattle.panel.specs.Slots.{is-slip};
+ghost use Rattle.panel.specs.Phase.{supports, ahead, wins-often, later, better, only, times, most-often, stands, standing, choice-of, heard-enough, best-heard};
 ghost use Rattle.panel.specs.Votes.{passes, row-at, block-row};
 use crate::memory::slot_at;
 use crate::vote::Vote;
 use labels::order::Ordered;
 use labels::slip::Slip;
 
-// Whether a heard slot counts; silence never does.
-fn counts_for<L: Ordered>(vote: Vote<L>, slot: Option<Slip<L>>) -> bool
-    ensures { λ r. ⌜ r ≡ passes order vote slot ⌝ }
+// Whether a heard slip counts.
+fn counts_slip<L: Ordered>(vote: Vote<L>, s: Slip<L>) -> bool
+    ensures { λ r. ⌜ r ≡ passes order vote (Some s) ⌝ }
 {
-    let Some(s) = slot else {
-        return false;
-    };
     match vote {
         Vote::Backs(label, phase) => label.is_equal(s.label) || s.phase < phase,
         Vote::Matches(label, phase) => label.is_equal(s.label) && s.phase == phase,
         Vote::Says(label) => label.is_equal(s.label),
         Vote::Proposes => s.phase == 0,
+    }
+}
+
+// Whether a heard slot counts; silence never does.
+fn counts_for<L: Ordered>(vote: Vote<L>, slot: Option<Slip<L>>) -> bool
+    ensures { λ r. ⌜ r ≡ passes order vote slot ⌝ }
+{
+    match slot {
+        None => false,
+        Some(s) => counts_slip(vote, s),
     }
 }
 
@@ -149,8 +159,41 @@ pub(crate) fn heard_often<L: Ordered>(
     top
 }
 
-// Whether a claim of board p's row stands, by the claims and by the picks of its phase. The blocks
-// hold what was heard of the claims, and of the picks of each phase.
+// Whether enough claims of board p's row have the slip's label or a smaller number. The blocks hold
+// what was heard of the claims, and of the picks of each phase.
+fn is_backed<L: Ordered>(
+    n: usize,
+    t: usize,
+    blocks: &[Option<Slip<L>>],
+    p: usize,
+    s: Slip<L>,
+) -> bool
+    requires small { ⌜ n ≤ 7 ⌝ }
+    requires fewer { ⌜ t ≤ n ⌝ }
+    requires within { ⌜ p < n ⌝ }
+    ensures { λ r. ⌜ r ≡ leb (n - t) (count (λ q. supports order (s .label) (s .phase) (row-at (now (blocks .entry)) (p * n) q)) n) ⌝ }
+{
+    n - t <= votes(blocks, p * n, n, Vote::Backs(s.label, s.phase))
+}
+
+// Whether board p heard enough picks of the slip's phase that are the slip.
+fn is_picked<L: Ordered>(
+    n: usize,
+    t: usize,
+    blocks: &[Option<Slip<L>>],
+    p: usize,
+    s: Slip<L>,
+) -> bool
+    requires small { ⌜ n ≤ 7 ⌝ }
+    requires fewer { ⌜ t ≤ n ⌝ }
+    requires within { ⌜ p < n ⌝ }
+    ensures { λ r. ⌜ r ≡ leb (t + 1) (count (λ q. is-slip order (s .label) (s .phase) (block-row n p (now (blocks .entry)) (s .phase) q)) n) ⌝ }
+{
+    let start = s.phase as usize * (n * n) + p * n;
+    t + 1 <= votes(blocks, start, n, Vote::Matches(s.label, s.phase))
+}
+
+// Whether a claim of board p's row stands, by the claims and by the picks of its phase.
 fn stands_up<L: Ordered>(
     n: usize,
     t: usize,
@@ -166,11 +209,10 @@ fn stands_up<L: Ordered>(
     if s.phase == 0 {
         return false;
     }
-    if votes(blocks, p * n, n, Vote::Backs(s.label, s.phase)) < n - t {
+    if !is_backed(n, t, blocks, p, s) {
         return false;
     }
-    let start = s.phase as usize * (n * n) + p * n;
-    t + 1 <= votes(blocks, start, n, Vote::Matches(s.label, s.phase))
+    is_picked(n, t, blocks, p, s)
 }
 
 // A slot, if it is a claim that stands.

@@ -1,6 +1,6 @@
 // The steps of a phase, over slots, blocks and an exchange.
 ghost use mathlib.Core.Path.{_≡_};
-ghost use mathlib.Core.List.{[], map};
+ghost use mathlib.Core.List.{[]};
 ghost use Prim.Native.Nat.{_≤_, _<_, _+_, _*_, _-_};
 ghost use lib.ListN.{length, take, drop, set};
 ghost use Rattle.exchanges.specs.Plane.{last-round};

@@ -2,7 +2,7 @@ use mathlib.Core.Path.{_≡_, ap, _∙_}
 use native.Mathlib.Omega.{arith}
 use Rattle.exchanges.specs.Boards.{count}
 use Rattle.panel.specs.Votes.{passes, row-at}
-use Rattle.panel.proofs.Loops.{Counted, counted-more}
+use Rattle.panel.proofs.Loops.{counted-more}
 use Rattle.panel.proofs.counting.votes.Needs as need
 
 pub loop-q-again : need.loop-q-again

@@ -1,9 +1,6 @@
-use mathlib.Core.Path.{_≡_, refl, _∙_}
-use Prim.Native.Nat.{_+_, _*_, _≤_}
+use mathlib.Core.Path.{refl, _∙_}
 use native.Mathlib.Omega.{arith}
 use lib.ListN.{length}
-use Rattle.panel.specs.Panel.{column, firsts}
-use Rattle.panel.specs.Steps.{Ready}
 use Rattle.panel.proofs.Hearing.{ready-at, round-at}
 use Rattle.panel.proofs.Running.{square-at-least, plain-ready, plain-round, ran}
 use Rattle.panel.proofs.steps.run_phase.Needs as need
