@@ -28,7 +28,7 @@ use Rattle.script.specs.Readers.{Read, then}
 use Rattle.script.specs.Fields.{first, byte, first-two, pair, pair-bytes, many, joined}
 use Rattle.script.specs.Header.{boards-ok, faults-ok, faults-default, bad-ok, phases-ok, bit, field, fields, header, header-bytes, header-map, listed, stands, bad-map}
 use Rattle.script.specs.Script.{Script, encode, decode, most}
-use Rattle.script.proofs.Follow.{then-inv, bind-inv, ok-same, require-inv, past, past-one}
+use Rattle.script.proofs.Follow.{then-inv, bind-inv, cond-inv, ok-same, require-inv, past, past-one}
 
 -- what a reader took is what a writer writes
 abbrev pub Back : {X : Type 0} → (List ℕ → ℕ → Read X) → (X → List ℕ) → Type 0
@@ -61,16 +61,15 @@ two-back d b p x q (y ∷ (z ∷ l)) k e h =
 pub pair-back : (d : Reader) → Back (pair d) pair-bytes
 pair-back d b p x q k h = two-back d b p x q (drop p b) (bytes-drop p b k) refl h
 
-pub many-back : {X : Type 0} (f : List ℕ → ℕ → Read X) (w : X → List ℕ) → Back f w → (k : ℕ) (b : List ℕ) (p : ℕ) (xs : List X) (q : ℕ) → Bytes b → many k f b p ≡ Ok (xs, q) → (drop p b ≡ joined w xs ++ drop q b) × (length xs ≡ k)
+pub many-back : {X : Type 0} (f : List ℕ → ℕ → Read X) (w : X → List ℕ) → Back f w → (k : ℕ) (b : List ℕ) (p : ℕ) (xs : List X) (q : ℕ) → Bytes b → many k f b p ≡ Ok (xs, q) → drop p b ≡ joined w xs ++ drop q b
 many-back f w g zero b p xs q k h =
     let o = ok-same [] xs p q h in
-    (ap (λ z. drop z b) (o .1) ∙ ap (λ ys. joined w ys ++ drop q b) (o .0), ap length (sym (o .0)))
+    ap (λ z. drop z b) (o .1) ∙ ap (λ ys. joined w ys ++ drop q b) (o .0)
 many-back f w g (suc n) b p xs q k h =
     then-inv (f b p) _ _ h (λ x r e h₁.
     then-inv (many n f b r) _ _ h₁ (λ ys s e₁ h₂.
-    let c = many-back f w g n b r ys s k e₁ in
     let o = ok-same (x ∷ ys) xs s q h₂ in
-    (g b p x r k e ∙ ap (λ l. w x ++ l) (c .0) ∙ sym (append-assoc (w x) (joined w ys) (drop s b)) ∙ ap (λ z. joined w (x ∷ ys) ++ drop z b) (o .1) ∙ ap (λ zs. joined w zs ++ drop q b) (o .0), ap length (sym (o .0)) ∙ ap suc (c .1))))
+    g b p x r k e ∙ ap (λ l. w x ++ l) (many-back f w g n b r ys s k e₁) ∙ sym (append-assoc (w x) (joined w ys) (drop s b)) ∙ ap (λ z. joined w (x ∷ ys) ++ drop z b) (o .1) ∙ ap (λ zs. joined w zs ++ drop q b) (o .0)))
 
 pub read-as-back : {L : Type 0} (C : Coding L) (p : ℕ) (o : Option L) (x : L) (q : ℕ) → read-as C p o ≡ Ok (x, q) → (o ≡ Some x) × (p + C .width ≡ q)
 read-as-back C p None x q h = let z : _≡_ {A = ℕ} 0 1 = cc in absurd (omega arith)
@@ -183,53 +182,33 @@ fixed-back n bad a c b p r q k e =
     let here : drop p b ≡ fixed-bytes x ++ drop p₄ b = pair-back InRecord b p v p₁ k e₁ ∙ ap (λ z. pair-bytes v ++ z) (byte-back InRecord b p₁ s p₂ k e₂ ∙ ap (λ z. s ∷ z) (byte-back InRecord b p₂ l p₃ k e₃ ∙ ap (λ z. l ∷ z) (byte-back InRecord b p₃ f p₄ k e₄))) in
     here ∙ ap (λ z. fixed-bytes x ++ drop z b) (o .1) ∙ ap (λ z. fixed-bytes z ++ drop q b) (o .0))))))
 
--- each record has as many slips as its map names
-abbrev pub Whole : {L : Type 0} → List (Entry L) → Type 0
-Whole [] = Unit {0}
-Whole (e ∷ es) = (length (e .slips) ≡ ones (e .note .forged)) × Whole es
-
 module _ {L : Type 0} (C : Coding L) (own : Own C) (n bad : ℕ) where
-  pub entry-back : (a c : ℕ) (b : List ℕ) (p : ℕ) (x : Entry L) (q : ℕ) → Bytes b → entry C n bad a c b p ≡ Ok (x, q) → (drop p b ≡ entry-bytes C x ++ drop q b) × (length (x .slips) ≡ ones (x .note .forged))
+  pub entry-back : (a c : ℕ) (b : List ℕ) (p : ℕ) (x : Entry L) (q : ℕ) → Bytes b → entry C n bad a c b p ≡ Ok (x, q) → drop p b ≡ entry-bytes C x ++ drop q b
   entry-back a c b p x q k e =
       then-inv (fixed n bad a c b p) _ _ e (λ r p₁ e₁ h₁.
       then-inv (many (ones (r .forged)) (slip C) b p₁) _ _ h₁ (λ ss p₂ e₂ h₂.
       let y : Entry L = record { note = r; slips = ss } in
       let o = ok-same y x p₂ q h₂ in
-      let m = many-back (slip C) (slip-bytes C) (slip-back C own) (ones (r .forged)) b p₁ ss p₂ k e₂ in
-      let here : drop p b ≡ entry-bytes C y ++ drop p₂ b = fixed-back n bad a c b p r p₁ k e₁ ∙ ap (λ z. fixed-bytes r ++ z) (m .0) in
-      (here ∙ ap (λ z. entry-bytes C y ++ drop z b) (o .1) ∙ ap (λ z. entry-bytes C z ++ drop q b) (o .0), subst (λ z. length (z .slips) ≡ ones (z .note .forged)) (o .0) (m .1))))
+      let here : drop p b ≡ entry-bytes C y ++ drop p₂ b = fixed-back n bad a c b p r p₁ k e₁ ∙ ap (λ z. fixed-bytes r ++ z) (many-back (slip C) (slip-bytes C) (slip-back C own) (ones (r .forged)) b p₁ ss p₂ k e₂) in
+      here ∙ ap (λ z. entry-bytes C y ++ drop z b) (o .1) ∙ ap (λ z. entry-bytes C z ++ drop q b) (o .0)))
 
-  none-back : (b : List ℕ) (p : ℕ) (es : List (Entry L)) (q : ℕ) → length b ≤ p → _≡_ {A = Read (List (Entry L))} (Ok ([], p)) (Ok (es, q)) → (drop p b ≡ joined (entry-bytes C) es) × Whole es
-  none-back b p es q h e =
-      let o = ok-same [] es p q e in
-      (drop-all p b h ∙ ap (joined (entry-bytes C)) (o .0), subst Whole (o .0) tt)
+  none-back : (b : List ℕ) (p : ℕ) (es : List (Entry L)) (q : ℕ) → length b ≤ p → _≡_ {A = Read (List (Entry L))} (Ok ([], p)) (Ok (es, q)) → drop p b ≡ joined (entry-bytes C) es
+  none-back b p es q h e = drop-all p b h ∙ ap (joined (entry-bytes C)) (ok-same [] es p q e .0)
 
-  some-back : (t : Bool) (m k : Read (List (Entry L))) (y : List (Entry L) × ℕ) {G : Type 0} → cond t m k ≡ Ok y → (t ≡ true → m ≡ Ok y → G) → (t ≡ false → k ≡ Ok y → G) → G
-  some-back true m k y e f g = f refl e
-  some-back false m k y e f g = g refl e
-
-  pub entries-back : (k a c : ℕ) (b : List ℕ) (p : ℕ) (es : List (Entry L)) (q : ℕ) → Bytes b → entries C n bad k a c b p ≡ Ok (es, q) → (drop p b ≡ joined (entry-bytes C) es) × Whole es
+  pub entries-back : (k a c : ℕ) (b : List ℕ) (p : ℕ) (es : List (Entry L)) (q : ℕ) → Bytes b → entries C n bad k a c b p ≡ Ok (es, q) → drop p b ≡ joined (entry-bytes C) es
   entries-back zero a c b p es q z e =
       let t = require-inv (leb (length b) p) _ _ _ e in
       none-back b p es q (leb-true _ _ (t .0)) (t .1)
   entries-back (suc k) a c b p es q z e =
-      some-back (ltb p (length b)) _ _ (es, q) e
+      cond-inv (ltb p (length b)) _ _ (es, q) e
       (λ t h. then-inv (entry C n bad a c b p) _ _ h (λ x p₁ e₁ h₁.
       then-inv (entries C n bad k (x .note .round) (x .note .sender) b p₁) _ _ h₁ (λ xs p₂ e₂ h₂.
-      let o = ok-same (x ∷ xs) es p₂ q h₂ in
-      let f = entry-back a c b p x p₁ z e₁ in
-      let m = entries-back k (x .note .round) (x .note .sender) b p₁ xs p₂ z e₂ in
-      (f .0 ∙ ap (λ l. entry-bytes C x ++ l) (m .0) ∙ ap (joined (entry-bytes C)) (o .0), subst Whole (o .0) (f .1, m .1)))))
+      entry-back a c b p x p₁ z e₁ ∙ ap (λ l. entry-bytes C x ++ l) (entries-back k (x .note .round) (x .note .sender) b p₁ xs p₂ z e₂) ∙ ap (joined (entry-bytes C)) (ok-same (x ∷ xs) es p₂ q h₂ .0))))
       (λ t h. none-back b p es q (ltb-false p (length b) t) h)
 
--- what bytes that read as a script are
-pub record Decoded {L : Type 0} (C : Coding L) (b : List ℕ) (s : Script L) : Type 0 where
-  pub encodes : encode C s ≡ b
-  pub each-proposes : length (s .proposals) ≡ s .head .boards
-  pub whole : Whole (s .records)
-
-pub decoded : {L : Type 0} (C : Coding L) → Own C → (b : List ℕ) (s : Script L) → Bytes b → decode C b ≡ Ok s → Decoded C b s
-decoded {L} C own b s z e =
+-- bytes that read as a script are the bytes of that script
+pub encodes-back : {L : Type 0} (C : Coding L) → Own C → (b : List ℕ) (s : Script L) → Bytes b → decode C b ≡ Ok s → encode C s ≡ b
+encodes-back {L} C own b s z e =
     let t = require-inv (leb (length b) most) _ _ _ e in
     then-inv (header (C .kind) b 0) _ _ (t .1) (λ h p e₁ h₁.
     then-inv (many (h .boards) (read-at C) b p) _ _ h₁ (λ ps q e₂ h₂.
@@ -239,5 +218,4 @@ decoded {L} C own b s z e =
     let f = header-back (C .kind) b 0 h p z e₁ in
     let m = many-back (read-at C) (C .write) (label-back C own) (h .boards) b p ps q z e₂ in
     let g = entries-back C own (h .boards) (bad-map h) (length b) 0 0 b q es r z e₃ in
-    let here : b ≡ encode C y = f ∙ ap (λ l. header-bytes (C .kind) h ++ l) (m .0 ∙ ap (λ l. joined (C .write) ps ++ l) (g .0)) in
-    subst (Decoded C b) o (record { encodes = sym here; each-proposes = m .1; whole = g .1 }))))
+    ap (encode C) (sym o) ∙ sym (f ∙ ap (λ l. header-bytes (C .kind) h ++ l) (m ∙ ap (λ l. joined (C .write) ps ++ l) g)))))

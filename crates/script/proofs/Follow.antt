@@ -1,6 +1,6 @@
 -- How readers follow one another, and where they stand.
 use mathlib.Core.Path.{_≡_, refl, sym, ap, _∙_}
-use mathlib.Core.Bool.{Bool, true, false}
+use mathlib.Core.Bool.{Bool, true, false, cond}
 use mathlib.Core.List.{List, [], _∷_, _++_, append-assoc}
 use Prim.Native.Nat.{ℕ, _+_, _≤_}
 use native.Mathlib.Omega.{arith}
@@ -28,6 +28,10 @@ require-inv false f k y e = let z : _≡_ {A = ℕ} 0 1 = cc in absurd (omega ar
 pub bind-inv : {X Y G : Type 0} (m : Result X Numbered) (f : X → Result Y Numbered) (y : Y) → bind m f ≡ Ok y → ((x : X) → m ≡ Ok x → f x ≡ Ok y → G) → G
 bind-inv (Ok x) f y e k = k x refl e
 bind-inv (Err g) f y e k = let z : _≡_ {A = ℕ} 0 1 = cc in absurd (omega arith)
+
+pub cond-inv : {Y G : Type 0} (t : Bool) (m k : Result Y Numbered) (y : Y) → cond t m k ≡ Ok y → (t ≡ true → m ≡ Ok y → G) → (t ≡ false → k ≡ Ok y → G) → G
+cond-inv true m k y e f g = f refl e
+cond-inv false m k y e f g = g refl e
 
 -- past what stands at a place
 pub past : (b : List ℕ) (p : ℕ) (u l : List ℕ) → drop p b ≡ u ++ l → drop (p + length u) b ≡ l

@@ -11,3 +11,5 @@ pub mod Outputs
 pub mod Tables
 pub mod Scripts
 pub mod Obeying
+pub mod Told
+pub mod Trips

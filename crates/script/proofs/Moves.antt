@@ -14,11 +14,13 @@ use Rattle.script.specs.declared.model.Record.{Record}
 use Rattle.labels.specs.declared.fault.Reader.{Reader}
 use Rattle.labels.specs.declared.fault.Reader.the-variants.{Record as InRecord}
 use Rattle.labels.specs.Coding.{Coding, Own, room, read-at}
-use Rattle.script.specs.Entries.{Entry, slip, later, maps, fixed, entry}
+use Rattle.script.specs.Entries.{Entry, slip, later, maps, fixed, entry, entries}
+use Rattle.script.specs.Header.{header, bad-map}
+use Rattle.script.specs.Script.{Script, decode, most}
 use Rattle.script.specs.Readers.{Read, then}
 use Rattle.script.specs.Fields.{first, byte, first-two, pair, many}
 use Rattle.script.proofs.Back.{read-as-back}
-use Rattle.script.proofs.Follow.{then-inv, bind-inv, ok-same, require-inv}
+use Rattle.script.proofs.Follow.{then-inv, bind-inv, cond-inv, ok-same, require-inv}
 
 abbrev pub Moves : {X : Type 0} → (List ℕ → ℕ → Read X) → ℕ → Type 0
 Moves {X} f k = (b : List ℕ) (p : ℕ) (x : X) (q : ℕ) → f b p ≡ Ok (x, q) → (p + k ≤ q) × (q ≤ length b)
@@ -107,3 +109,29 @@ entry-moves {L} C own n bad a c b p x q h =
     let far : p + 5 + ones (r .forged) ≤ q = omega arith in
     let made : (p + 5 + ones (y .note .forged) ≤ q) × (q ≤ length b) × (length (y .slips) ≡ ones (y .note .forged)) = (far, omega arith, m .2) in
     subst (λ z. (p + 5 + ones (z .note .forged) ≤ q) × (q ≤ length b) × (length (z .slips) ≡ ones (z .note .forged))) (o .0) made))
+
+-- each record has as many slips as its map names
+abbrev pub Whole : {L : Type 0} → List (Entry L) → Type 0
+Whole [] = Unit {0}
+Whole (e ∷ es) = (length (e .slips) ≡ ones (e .note .forged)) × Whole es
+
+module _ {L : Type 0} (C : Coding L) (own : Own C) where
+  entries-whole : (n bad k a c : ℕ) (b : List ℕ) (p : ℕ) (es : List (Entry L)) (q : ℕ) → entries C n bad k a c b p ≡ Ok (es, q) → Whole es
+  entries-whole n bad zero a c b p es q e = subst Whole (ok-same [] es p q (require-inv (leb (length b) p) _ _ _ e .1) .0) tt
+  entries-whole n bad (suc k) a c b p es q e =
+      cond-inv (ltb p (length b)) _ _ (es, q) e
+      (λ t h. then-inv (entry C n bad a c b p) _ _ h (λ x p₁ e₁ h₁.
+      then-inv (entries C n bad k (x .note .round) (x .note .sender) b p₁) _ _ h₁ (λ xs p₂ e₂ h₂.
+      subst Whole (ok-same (x ∷ xs) es p₂ q h₂ .0) (entry-moves C own n bad a c b p x p₁ e₁ .2, entries-whole n bad k (x .note .round) (x .note .sender) b p₁ xs p₂ e₂))))
+      (λ t h. subst Whole (ok-same [] es p q h .0) tt)
+
+  -- what is read has as many proposals as boards, and each record all its slips
+  pub decode-whole : (b : List ℕ) (s : Script L) → decode C b ≡ Ok s → (length (s .proposals) ≡ s .head .boards) × Whole (s .records)
+  decode-whole b s e =
+      let t = require-inv (leb (length b) most) _ _ _ e in
+      then-inv (header (C .kind) b 0) _ _ (t .1) (λ h p e₁ h₁.
+      then-inv (many (h .boards) (read-at C) b p) _ _ h₁ (λ ps q e₂ h₂.
+      then-inv (entries C (h .boards) (bad-map h) (length b) 0 0 b q) _ _ h₂ (λ es r e₃ h₃.
+      let y : Script L = record { head = h; proposals = ps; records = es } in
+      let o : y ≡ s = cc in
+      subst (λ z. (length (z .proposals) ≡ z .head .boards) × Whole (z .records)) o (many-moves (read-at C) (label-moves C own) (h .boards) b p ps q e₂ .2, entries-whole (h .boards) (bad-map h) (length b) 0 0 b q es r e₃))))

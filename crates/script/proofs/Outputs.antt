@@ -41,6 +41,14 @@ module _ {L : Type 0} (C : Coding L) (own : Own C) (h : Header) (count : ℕ) (m
   unfolding finish
   finished z e = ap finish (sym e)
 
+  -- the bytes read as a script
+  pub accepts : (t u : Bool) → leb count (length (m .records)) ≡ t → leb (length (formed C h count m)) size ≡ u → (s : Script L) → decode C (formed C h count m) ≡ Ok s → require t (13, length (formed C h count m), InRecord) (require u (22, size, InScript) (Ok (length (formed C h count m)))) ≡ writes C h count m size
+  unfolding finish
+  accepts t u i j s d =
+      ap (λ z. require z (13, length (formed C h count m), InRecord) (require u (22, size, InScript) (Ok (length (formed C h count m))))) (sym i)
+      ∙ ap (λ z. require (leb count (length (m .records))) (13, length (formed C h count m), InRecord) (require z (22, size, InScript) (Ok (length (formed C h count m))))) (sym j)
+      ∙ finished (Ok s) d
+
   pub writes-long : (new : List ℕ) (e : Numbered) → length new ≡ most → Puts (formed C h count m) [] 0 (Err e) new → Err e ≡ writes C h count m size
   unfolding finish
   writes-long new e n k =
@@ -54,12 +62,7 @@ module _ {L : Type 0} (C : Coding L) (own : Own C) (h : Header) (count : ℕ) (m
 
     module _ (v : Survey) (e : Ok v ≡ surveyed C b) where
       accepted : (t u : Bool) → leb count (length (m .records)) ≡ t → leb (length (formed C h count m)) size ≡ u → require t (13, length (formed C h count m), InRecord) (require u (22, size, InScript) (Ok (length (formed C h count m)))) ≡ writes C h count m size
-      unfolding finish
-      accepted t u i j =
-          let f = found C own b v e in
-          ap (λ z. require z (13, length (formed C h count m), InRecord) (require u (22, size, InScript) (Ok (length (formed C h count m))))) (sym i)
-          ∙ ap (λ z. require (leb count (length (m .records))) (13, length (formed C h count m), InRecord) (require z (22, size, InScript) (Ok (length (formed C h count m))))) (sym j)
-          ∙ finished (Ok (record { head = v .head; proposals = f .ps; records = f .es })) (ap (decode C) (sym is) ∙ f .decodes)
+      accepted t u i j = let f = found C own b v e in accepts t u i j (record { head = v .head; proposals = f .ps; records = f .es }) (ap (decode C) (sym is) ∙ f .decodes)
 
       pub writes-cut : length (m .records) < count → Err (13, length (formed C h count m), InRecord) ≡ writes C h count m size
       writes-cut short = accepted false _ (lt-leb count (length (m .records)) short) refl

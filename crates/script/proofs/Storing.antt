@@ -22,7 +22,7 @@ use Rattle.script.proofs.Loops.{onto, none-onto, one-onto}
 use Rattle.script.proofs.Follow.{then-inv, ok-same}
 use Rattle.script.proofs.Moves.{entry-moves}
 
-length-notes : {L : Type 0} (es : List (Entry L)) → length (notes es) ≡ length es
+pub length-notes : {L : Type 0} (es : List (Entry L)) → length (notes es) ≡ length es
 length-notes [] = refl
 length-notes (e ∷ es) = ap suc (length-notes es)
 

@@ -4,46 +4,23 @@ ghost use mathlib.Core.List.{[], _∷_};
 ghost use Prim.Native.Nat.{ℕ, _+_, _<_, _≤_};
 ghost use lib.ListN.{length, drop, take};
 ghost use Rattle.labels.specs.Faults.{answered};
-ghost use Rattle.script.specs.Entries.{fixed-bytes, entry-bytes, slip-bytes};
+ghost use Rattle.script.specs.Entries.{fixed-bytes, entry-bytes};
 ghost use Rattle.script.specs.Fields.{joined};
 ghost use Rattle.script.specs.Header.{header-map, header-bytes, listed};
 ghost use Rattle.script.specs.Memory.{lists, with-slips, formed};
 ghost use Rattle.script.specs.Passes.{Puts};
+use crate::fields::put_bytes;
 use crate::model::Header;
 use crate::model::Record;
-use crate::refusing::in_script;
+use crate::rows::Labels;
+use crate::rows::LabelsRow;
+use crate::rows::Slips;
+use crate::rows::SlipsRow;
+use crate::rows::put_row;
 use crate::tally::map_count;
 use labels::fault::Fault;
 use labels::label::Label;
-use labels::reading::write_label;
-use labels::refusal::Refusal;
 use labels::slip::Slip;
-
-fn put_bytes(bytes: &[u8], out: &mut [u8], at: usize) -> Result<usize, Fault>
-    ensures { λ r. ⌜ Puts (now (bytes .entry)) (now (out .entry)) at (answered r) (now (out .exit)) ⌝ }
-{
-    if at > out.len() || out.len() - at < bytes.len() {
-        return Err(in_script(Refusal::ScriptTooLong, 60_000));
-    }
-    out[at..at + bytes.len()].copy_from_slice(bytes);
-    Ok(at + bytes.len())
-}
-
-fn put_label<L: Label>(label: L, out: &mut [u8], at: usize) -> Result<usize, Fault>
-    ensures { λ r. ⌜ Puts (L·Label .coding .write label) (now (out .entry)) at (answered r) (now (out .exit)) ⌝ }
-{
-    match write_label(label, out, at) {
-        Ok(end) => Ok(end),
-        Err(_) => Err(in_script(Refusal::ScriptTooLong, 60_000)),
-    }
-}
-
-fn put_slip<L: Label>(slip: Slip<L>, out: &mut [u8], at: usize) -> Result<usize, Fault>
-    ensures { λ r. ⌜ Puts (slip-bytes (L·Label .coding) slip) (now (out .entry)) at (answered r) (now (out .exit)) ⌝ }
-{
-    let next = put_bytes(&[slip.phase], out, at)?;
-    put_label(slip.label, out, next)
-}
 
 fn put_field(field: Option<u8>, out: &mut [u8], at: usize) -> Result<usize, Fault>
     ensures { λ r. ⌜ Puts (listed field) (now (out .entry)) at (answered r) (now (out .exit)) ⌝ }
@@ -80,35 +57,6 @@ fn put_fixed(note: Record, out: &mut [u8], at: usize) -> Result<usize, Fault>
     put_bytes(&[high, low, note.sender, note.lost, note.forged], out, at)
 }
 
-fn put_labels<L: Label>(labels: &[L], n: usize, out: &mut [u8], at: usize) -> Result<usize, Fault>
-    requires { ⌜ n ≤ length (now labels) ⌝ }
-    ensures { λ r. ⌜ Puts (joined (L·Label .coding .write) (take n (now (labels .entry)))) (now (out .entry)) at (answered r) (now (out .exit)) ⌝ }
-{
-    let mut p = at;
-    for i in 0..n {
-        p = put_label(labels[i], out, p)?;
-    }
-    Ok(p)
-}
-
-// So many slips of a list from one on.
-fn put_slips<L: Label>(
-    slips: &[Slip<L>],
-    from: usize,
-    n: usize,
-    out: &mut [u8],
-    at: usize,
-) -> Result<usize, Fault>
-    requires { ⌜ from + n ≤ length (now slips) ⌝ }
-    ensures { λ r. ⌜ Puts (joined (slip-bytes (L·Label .coding)) (take n (drop from (now (slips .entry))))) (now (out .entry)) at (answered r) (now (out .exit)) ⌝ }
-{
-    let mut p = at;
-    for i in 0..n {
-        p = put_slip(slips[from + i], out, p)?;
-    }
-    Ok(p)
-}
-
 // The first so many records, each with its slips, to where the slips end too soon.
 fn put_records<L: Label>(
     records: &[Record],
@@ -127,7 +75,7 @@ fn put_records<L: Label>(
         let due = map_count(note.forged);
         let there = due.min(slips.len() - used);
         let q = put_fixed(note, out, p)?;
-        p = put_slips(slips, used, there, out, q)?;
+        p = put_row::<Slip<L>, Slips>(slips, used, there, out, q)?;
         if there < due {
             return Ok(p);
         }
@@ -151,7 +99,7 @@ pub(crate) fn form<L: Label>(
     let start = put_header(L::kind_number(), head, out)?;
     let n = head.boards as usize;
     let there = n.min(proposals.len());
-    let rest = put_labels(proposals, there, out, start)?;
+    let rest = put_row::<L, Labels>(proposals, 0, there, out, start)?;
     if there < n {
         return Ok(rest);
     }

@@ -4,15 +4,17 @@ ghost use Prim.Native.Nat.{ℕ, _+_, _<_, _≤_, _^_};
 ghost use lib.ListN.{length};
 ghost use Rattle.labels.specs.Faults.{answered};
 ghost use Rattle.script.specs.Header.{bad-map};
-ghost use Rattle.script.specs.Memory.{lists, reads, filled, Reads-back};
+ghost use Rattle.script.specs.Memory.{lists, reads, filled, Writes-back};
 ghost use Rattle.script.specs.Passes.{surveyed};
 ghost use Rattle.script.specs.Script.{decode};
 use crate::heads::read_header;
 use crate::model::Header;
 use crate::model::Record;
 use crate::refusing::in_script;
-use crate::rows::fill_labels;
-use crate::rows::skip_labels;
+use crate::rows::Labels;
+use crate::rows::LabelsRow;
+use crate::rows::fill_row;
+use crate::rows::skip_row;
 use crate::store::fill_entries;
 use crate::survey::Survey;
 use crate::tally::count_entries;
@@ -39,7 +41,7 @@ pub(crate) fn survey<L: Label>(b: &[u8]) -> Result<Survey, Fault>
         return Err(in_script(Refusal::ScriptTooLong, 60_000));
     }
     let (head, start) = read_header(L::kind_number(), b, 0)?;
-    let rest = skip_labels::<L>(head.boards as usize, b, start)?;
+    let rest = skip_row::<L, Labels>(head.boards as usize, b, start)?;
     let (records, slips) = count_entries::<L>(head.boards, bad_boards(head), b, rest)?;
     Ok(Survey {
         head,
@@ -51,7 +53,8 @@ pub(crate) fn survey<L: Label>(b: &[u8]) -> Result<Survey, Fault>
 }
 
 // Reads a script into three lists, and answers its header and how many records it has. Entries past
-// those due stay as they are; a refusal leaves all three lists as they are.
+// those due stay as they are; a refusal leaves all three lists as they are. Writing what was read
+// restores its bytes.
 pub fn read<L: Label>(
     b: &[u8],
     proposals: &mut [L],
@@ -60,13 +63,14 @@ pub fn read<L: Label>(
 ) -> Result<(Header, usize), Fault>
     ensures value { λ r. ⌜ answered r ≡ reads (L·Label .coding) (now (b .entry)) (lists (now (proposals .entry)) (now (records .entry)) (now (slips .entry))) ⌝ }
     ensures after { λ _. ⌜ lists (now (proposals .exit)) (now (records .exit)) (now (slips .exit)) ≡ filled (decode (L·Label .coding) (now (b .entry))) (lists (now (proposals .entry)) (now (records .entry)) (now (slips .entry))) ⌝ }
+    ensures trip { λ _. ⌜ Writes-back (L·Label .coding) ⌝ }
 {
     let found = survey::<L>(b)?;
     let n = found.head.boards as usize;
     if proposals.len() < n || records.len() < found.records || slips.len() < found.slips {
         return Err(in_script(Refusal::MemoryTooShort, b.len()));
     }
-    let _ = fill_labels::<L>(n, b, found.start, proposals)?;
+    let _ = fill_row::<L, Labels>(n, b, found.start, 0, proposals)?;
     fill_entries::<L>(
         found.head.boards,
         bad_boards(found.head),

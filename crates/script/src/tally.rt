@@ -8,9 +8,12 @@ ghost use Rattle.script.specs.Entries.{entry, entries};
 ghost use Rattle.script.specs.Passes.{noted, counted};
 use crate::model::Record;
 use crate::records::read_fixed;
-use crate::rows::skip_slips;
+use crate::rows::Slips;
+use crate::rows::SlipsRow;
+use crate::rows::skip_row;
 use labels::fault::Fault;
 use labels::label::Label;
+use labels::slip::Slip;
 
 // How many boards a map names.
 pub(crate) fn map_count(map: u8) -> usize
@@ -34,7 +37,7 @@ pub(crate) fn skip_entry<L: Label>(
 {
     let (record, q) = read_fixed(n, bad, round, sender, b, p)?;
     let count = map_count(record.forged);
-    let end = skip_slips::<L>(count, b, q)?;
+    let end = skip_row::<Slip<L>, Slips>(count, b, q)?;
     Ok((record, end))
 }
 

@@ -16,8 +16,8 @@ offset-records-count g c = let h = has-room (g .L·Label .coding) (g .L·Label·
 pub index-records-count : need.index-records-count
 index-records-count g c = let h = has-room (g .L·Label .coding) (g .L·Label·met .own) (c .args .n) (c .args .bad) (c .args .b .now) (c .args .start) (c .args .records .now) (c .args .slips .now) (c .loop-p .p) (c .loop-p .count) (c .loop-p .done) (c .loop-p .round) (c .loop-p .sender) (c .loop-p .records) (c .loop-p .slips) (c .loop-p .inv) (c .loop-p-test .taken) (length (c .args .records .now)) (length (c .args .slips .now)) (c .pre .1) (c .in-Continue-record .record) (c .in-Continue-record .q) (c .map-count-more .result) (c .in-Continue-record .ensures tt) (c .map-count-more .ensures .value) in omega (arith, h .0)
 
-pub fill-slips-requires : need.fill-slips-requires
-fill-slips-requires g c κs = let h = has-room (g .L·Label .coding) (g .L·Label·met .own) (c .args .n) (c .args .bad) (c .args .b .now) (c .args .start) (c .args .records .now) (c .args .slips .now) (c .loop-p .p) (c .loop-p .count) (c .loop-p .done) (c .loop-p .round) (c .loop-p .sender) (c .loop-p .records) (c .loop-p .slips) (c .loop-p .inv) (c .loop-p-test .taken) (length (c .args .records .now)) (length (c .args .slips .now)) (c .pre .1) (c .in-Continue-record .record) (c .in-Continue-record .q) (c .map-count-more .result) (c .in-Continue-record .ensures tt) (c .map-count-more .ensures .value) in omega (arith, h .1)
+pub fill-row-requires : need.fill-row-requires
+fill-row-requires g c κs = let h = has-room (g .L·Label .coding) (g .L·Label·met .own) (c .args .n) (c .args .bad) (c .args .b .now) (c .args .start) (c .args .records .now) (c .args .slips .now) (c .loop-p .p) (c .loop-p .count) (c .loop-p .done) (c .loop-p .round) (c .loop-p .sender) (c .loop-p .records) (c .loop-p .slips) (c .loop-p .inv) (c .loop-p-test .taken) (length (c .args .records .now)) (length (c .args .slips .now)) (c .pre .1) (c .in-Continue-record .record) (c .in-Continue-record .q) (c .map-count-more .result) (c .in-Continue-record .ensures tt) (c .map-count-more .ensures .value) in omega (arith, h .1)
 
 pub returns-in-Break-p : need.returns-in-Break-p
 returns-in-Break-p g c = absurd (no-slip-fault (g .L·Label .coding) (g .L·Label·met .own) (c .args .n) (c .args .bad) (c .args .b .now) (c .args .start) (c .args .records .now) (c .args .slips .now) (c .loop-p .p) (c .loop-p .count) (c .loop-p .done) (c .loop-p .round) (c .loop-p .sender) (c .loop-p .records) (c .loop-p .slips) (c .loop-p .inv) (c .loop-p-test .taken) (length (c .args .records .now)) (length (c .args .slips .now)) (c .pre .1) (c .in-Continue-record .record) (c .in-Continue-record .q) (c .map-count-more .result) (c .in-Continue-record .ensures tt) (c .map-count-more .ensures .value) _ _ (c .in-Break-p .ensures tt))

@@ -1,7 +1,7 @@
 use mathlib.Core.List.{[], _∷_}
 use Rattle.script.proofs.Follow.{passed}
 use Rattle.script.proofs.Putting.{puts-then, puts-stop}
-use Rattle.script.proofs.forming.put_slip.Needs as need
+use Rattle.script.proofs.fields.put_slip.Needs as need
 
 pub returns-in-Break-next : need.returns-in-Break-next
 returns-in-Break-next g c =
