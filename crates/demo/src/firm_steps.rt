@@ -16,7 +16,7 @@ use std::error::AnyError;
 use std::fmt::Display;
 
 // The map of bad boards: board 3.
-const BAD: u8 = 8;
+pub const BAD: u8 = 8;
 
 // A slot's label, or a dash for silence.
 pub fn slot_text<L: Copy + Display>(

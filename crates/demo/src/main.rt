@@ -3,10 +3,12 @@
 // The input is one panel after another: the number of the label kind (one byte), the number of
 // boards (one byte), and a label for each board.
 mod firm_steps;
+mod settle_steps;
 mod traced;
 mod watched;
 
 use crate::firm_steps::show_firm;
+use crate::settle_steps::show_settling;
 use labels::fault::FaultDisplay;
 use labels::frame_number::FrameNumber;
 use labels::kinds::FrameNumberDisplay;
@@ -96,6 +98,7 @@ fn show_panel<L: Label + Display>(
             write_back(rt, proposals.as_slice(), &input[start..end])?;
         }
         show_firm(rt, proposals.as_slice())?;
+        show_settling(rt, proposals.as_slice())?;
     }
     Ok(end)
 }

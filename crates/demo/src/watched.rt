@@ -24,7 +24,11 @@ impl<X, I: Copy> Watched<X, I> {
     pub fn new(heap: Global, below: X) -> Self
         ensures { λ r. ⌜ r .below ≡ below ⌝ }
     {
-        Watched { below, sent: Vec::new(heap), heard: Vec::new(heap) }
+        Watched {
+            below,
+            sent: Vec::new(heap),
+            heard: Vec::new(heap),
+        }
     }
 
     // What board p sent in the exchange of this number, of n boards.
@@ -72,7 +76,12 @@ pub impl<I: Copy, X: Exchange<I>> Exchange<I> for Watched<X, I> as WatchedExchan
         Ok(())
     }
 
-    fn firm(&mut self, sent: &[Option<I>], heard: &mut [Option<I>], work: &mut [Option<I>]) -> Result<(), Refusal> {
+    fn firm(
+        &mut self,
+        sent: &[Option<I>],
+        heard: &mut [Option<I>],
+        work: &mut [Option<I>],
+    ) -> Result<(), Refusal> {
         self.below.firm(sent, heard, work)?;
         let n = usize::from(self.below.boards());
         keep(&mut self.sent, sent, n);

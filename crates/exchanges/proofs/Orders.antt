@@ -6,7 +6,7 @@ use Prim.Native.Nat.{ℕ, suc, zero, _+_}
 use native.Mathlib.Omega.{arith}
 use Rattle.std.specs.Iters.{counting, folded}
 use Rattle.std.specs.Joined.{joined}
-use Rattle.std.specs.shelf.Lists.{kept-by}
+use Rattle.std.specs.shelf.Lists.{All, kept-by}
 use Rattle.std.proofs.shelf.Lists.{append-nil, append-assoc, map-id}
 use Rattle.std.proofs.shelf.Counted.{kept-by-map-counting-more}
 use Rattle.std.proofs.shelf.Tests.{cond-true, cond-false}
@@ -14,6 +14,7 @@ use Rattle.std.specs.declared.option.Option.{Option}
 use Rattle.exchanges.specs.Plane.{Plane}
 use Rattle.exchanges.specs.Trees.{others, level, Hop, hops}
 use Rattle.exchanges.specs.Slots.{Work, Worked, hops-on, hops-under}
+use Rattle.exchanges.proofs.Counts.{all-of}
 
 folded-append : {A B : Type 0} (f : B → A → B) (a : B) (xs ys : List A) → folded f a (xs ++ ys) ≡ folded f (folded f a xs) ys
 folded-append f a [] ys = refl
@@ -27,9 +28,12 @@ pub joined-joined : {X Y Z : Type 0} (f : Y → List X) (g : Z → List Y) (zs :
 joined-joined f g [] = refl
 joined-joined f g (z ∷ zs) = joined-append f (g z) (joined g zs) ∙ ap (λ l. joined f (g z) ++ l) (joined-joined f g zs)
 
+pub joined-alike : {X Y : Type 0} (f g : Y → List X) (ys : List Y) → All (λ y. f y ≡ g y) ys → joined f ys ≡ joined g ys
+joined-alike f g [] h = refl
+joined-alike f g (y ∷ ys) h = cc (h .0, joined-alike f g ys (h .1))
+
 pub joined-same : {X Y : Type 0} (f g : Y → List X) (ys : List Y) → ((y : Y) → f y ≡ g y) → joined f ys ≡ joined g ys
-joined-same f g [] h = refl
-joined-same f g (y ∷ ys) h = cc (h y, joined-same f g ys h)
+joined-same f g ys h = joined-alike f g ys (all-of (λ y. f y ≡ g y) h ys)
 
 kept-more : (f : ℕ → Bool) (q : ℕ) → kept-by f (counting 0 (q + 1)) ≡ kept-by f (counting 0 q) ++ cond (f q) (q ∷ []) []
 kept-more f q =

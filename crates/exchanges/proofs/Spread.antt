@@ -10,7 +10,8 @@ use lib.ListN.{length, getD, take, drop, take-append-drop}
 use Rattle.std.specs.Iters.{counting}
 use Rattle.std.specs.Joined.{joined}
 use Rattle.std.specs.shelf.Lists.{All}
-use Rattle.std.proofs.shelf.Lists.{ext-getD, length-map, length-take, getD-map, getD-take, append-nil}
+use Rattle.std.proofs.shelf.Lists.{map-append, ext-getD, length-map, length-take, getD-map, getD-take, append-nil}
+use Rattle.std.proofs.shelf.Lanes.{map-map}
 use Rattle.std.proofs.shelf.Counted.{length-counting, getD-counting, fill-by-all}
 use Rattle.std.proofs.shelf.Elements.{all-weaker}
 use Rattle.std.specs.declared.option.Option.{Option}
@@ -19,7 +20,7 @@ use Rattle.exchanges.specs.Trees.{IsPath, Trees, others, level, rank, place, s
 use Rattle.exchanges.specs.Slots.{slot}
 use Rattle.exchanges.proofs.Counts.{length-others, all-counting, map-same}
 use Rattle.exchanges.proofs.Ranks.{all-paths, all-joined-at}
-use Rattle.exchanges.proofs.Orders.{joined-append}
+use Rattle.exchanges.proofs.Orders.{joined-append, joined-alike}
 use Rattle.exchanges.proofs.Children.{other-index}
 
 counting-append : (a m k : ℕ) → counting a (m + k) ≡ counting a m ++ counting (a + m) k
@@ -44,10 +45,6 @@ blocks m a (suc k) =
     let all : suc k * m ≡ m + k * m = omega (arith, suc-mul k m) in
     ap (λ l. counting (a * m) m ++ l) (blocks m (a + 1) k ∙ ap (λ (x : ℕ). counting x (k * m)) next) ∙ sym (counting-append (a * m) m (k * m)) ∙ ap (counting (a * m)) (sym all)
 
-map-append : {X Y : Type 0} (f : X → Y) (xs ys : List X) → map f (xs ++ ys) ≡ map f xs ++ map f ys
-map-append f [] ys = refl
-map-append f (x ∷ xs) ys = ap (λ l. f x ∷ l) (map-append f xs ys)
-
 map-joined : {X Y Z : Type 0} (f : X → Y) (g : Z → List X) (zs : List Z) → map f (joined g zs) ≡ joined (λ z. map f (g z)) zs
 map-joined f g [] = refl
 map-joined f g (z ∷ zs) = map-append f (g z) (joined g zs) ∙ ap (λ l. map f (g z) ++ l) (map-joined f g zs)
@@ -56,21 +53,13 @@ joined-map : {X Y Z : Type 0} (f : Y → List X) (g : Z → Y) (zs : List Z) →
 joined-map f g [] = refl
 joined-map f g (z ∷ zs) = ap (λ l. f (g z) ++ l) (joined-map f g zs)
 
-map-then : {X Y Z : Type 0} (f : Y → Z) (g : X → Y) (xs : List X) → map f (map g xs) ≡ map (λ x. f (g x)) xs
-map-then f g [] = refl
-map-then f g (x ∷ xs) = ap (λ l. f (g x) ∷ l) (map-then f g xs)
-
-joined-alike : {X Y : Type 0} (f g : Y → List X) (ys : List Y) → All (λ y. f y ≡ g y) ys → joined f ys ≡ joined g ys
-joined-alike f g [] h = refl
-joined-alike f g (y ∷ ys) h = cc (h .0, joined-alike f g ys (h .1))
-
 abbrev children : ℕ → List ℕ → List (List ℕ)
 children n α = map (λ q. q ∷ α) (others n α)
 
 child-ranks : (n k : ℕ) (α : List ℕ) → IsPath n α → length α ≡ k → map (rank n) (children n α) ≡ counting (rank n α * (n - k)) (n - k)
 child-ranks n k α path e =
     let long : length (others n α) ≡ n - k = omega (arith, length-others n α path) in
-    map-then (rank n) (λ q. q ∷ α) (others n α) ∙ ext-getD 0 (map (λ q. rank n (q ∷ α)) (others n α)) (counting (rank n α * (n - k)) (n - k)) (length-map (others n α) (λ q. rank n (q ∷ α)) ∙ long ∙ sym (length-counting (rank n α * (n - k)) (n - k))) (λ j l. let in-others : j < length (others n α) = omega (arith, length-map (others n α) (λ q. rank n (q ∷ α))) in let in-row : j < n - k = omega arith in getD-map (λ q. rank n (q ∷ α)) (others n α) j 0 0 in-others ∙ ap (λ (x : ℕ). rank n α * (n - length α) + x) (other-index n α j path in-others) ∙ ap (λ (m : ℕ). rank n α * (n - m) + j) e ∙ sym (getD-counting (rank n α * (n - k)) (n - k) j 0 in-row))
+    map-map (rank n) (λ q. q ∷ α) (others n α) ∙ ext-getD 0 (map (λ q. rank n (q ∷ α)) (others n α)) (counting (rank n α * (n - k)) (n - k)) (length-map (others n α) (λ q. rank n (q ∷ α)) ∙ long ∙ sym (length-counting (rank n α * (n - k)) (n - k))) (λ j l. let in-others : j < length (others n α) = omega (arith, length-map (others n α) (λ q. rank n (q ∷ α))) in let in-row : j < n - k = omega arith in getD-map (λ q. rank n (q ∷ α)) (others n α) j 0 0 in-others ∙ ap (λ (x : ℕ). rank n α * (n - length α) + x) (other-index n α j path in-others) ∙ ap (λ (m : ℕ). rank n α * (n - m) + j) e ∙ sym (getD-counting (rank n α * (n - k)) (n - k) j 0 in-row))
 
 level-ranks : (n k : ℕ) → map (rank n) (level n k) ≡ counting 0 (paths-of n k)
 level-ranks n zero = refl
@@ -80,7 +69,7 @@ level-ranks n (suc k) =
 level-places : (n k : ℕ) → map (place n) (level n k) ≡ counting (start n k) (paths-of n k)
 level-places n k =
     let z : start n k + 0 ≡ start n k = omega arith in
-    map-same (place n) (λ α. start n k + rank n α) (level n k) (all-weaker (λ α. IsPath n α × (length α ≡ k)) _ (λ α h. ap (λ (m : ℕ). start n m + rank n α) (h .1)) (level n k) (all-paths n k)) ∙ sym (map-then (λ i. start n k + i) (rank n) (level n k)) ∙ ap (map (λ i. start n k + i)) (level-ranks n k) ∙ counting-shift (start n k) 0 (paths-of n k) ∙ ap (λ (x : ℕ). counting x (paths-of n k)) z
+    map-same (place n) (λ α. start n k + rank n α) (level n k) (all-weaker (λ α. IsPath n α × (length α ≡ k)) _ (λ α h. ap (λ (m : ℕ). start n m + rank n α) (h .1)) (level n k) (all-paths n k)) ∙ sym (map-map (λ i. start n k + i) (rank n) (level n k)) ∙ ap (map (λ i. start n k + i)) (level-ranks n k) ∙ counting-shift (start n k) 0 (paths-of n k) ∙ ap (λ (x : ℕ). counting x (paths-of n k)) z
 
 first-places : (n m : ℕ) → joined (λ k. map (place n) (level n k)) (counting 1 m) ≡ counting 0 (start n (suc m))
 first-places n zero = refl
@@ -108,7 +97,7 @@ module _ {I : Type 0} (same : I → I → Bool) (n t size : ℕ) (sized : size �
   row : (p : ℕ) → p < n → map (λ α. reduced same n t T (t + 1 - length α) p α) (paths n t) ≡ map at (counting (p * size) size)
   row p l =
       let z : p * size + 0 ≡ p * size = omega arith in
-      sym (map-same (λ α. at (p * size + place n α)) (λ α. reduced same n t T (t + 1 - length α) p α) (paths n t) (all-weaker (λ α. IsPath n α × (1 ≤ length α) × (length α ≤ t + 1)) _ (λ α h. holds p α l (h .0) (h .1) (h .2)) (paths n t) (all-tree n t))) ∙ sym (map-then (λ i. at (p * size + i)) (place n) (paths n t)) ∙ ap (map (λ i. at (p * size + i))) (tree-places n t ∙ ap (counting 0) (sym sized)) ∙ sym (map-then at (λ i. p * size + i) (counting 0 size)) ∙ ap (map at) (counting-shift (p * size) 0 size ∙ ap (λ (x : ℕ). counting x size) z)
+      sym (map-same (λ α. at (p * size + place n α)) (λ α. reduced same n t T (t + 1 - length α) p α) (paths n t) (all-weaker (λ α. IsPath n α × (1 ≤ length α) × (length α ≤ t + 1)) _ (λ α h. holds p α l (h .0) (h .1) (h .2)) (paths n t) (all-tree n t))) ∙ sym (map-map (λ i. at (p * size + i)) (place n) (paths n t)) ∙ ap (map (λ i. at (p * size + i))) (tree-places n t ∙ ap (counting 0) (sym sized)) ∙ sym (map-map at (λ i. p * size + i) (counting 0 size)) ∙ ap (map at) (counting-shift (p * size) 0 size ∙ ap (λ (x : ℕ). counting x size) z)
 
   front : workspace same n t T ≡ take (n * size) ws
   front =

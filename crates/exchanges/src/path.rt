@@ -1,7 +1,7 @@
 // Paths of boards, and where they stand in a tree.
 ghost use mathlib.Core.Path.{_≡_};
 ghost use mathlib.Core.List.{_∷_};
-ghost use Prim.Native.Nat.{ℕ, _+_, _-_, _*_, _<_, _≤_};
+ghost use Prim.Native.Nat.{_+_, _-_, _*_, _<_, _≤_};
 ghost use Rattle.exchanges.specs.Boards.{most-boards};
 ghost use Rattle.exchanges.specs.Trees.{on, lower, rank, start, place, tree-size, IsPath};
 ghost use Rattle.exchanges.specs.Slots.{trail};

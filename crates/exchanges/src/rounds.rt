@@ -1,7 +1,7 @@
 // The rounds of a firm exchange, in which the trees of all boards are filled.
 ghost use mathlib.Core.Path.{_≡_};
 ghost use mathlib.Core.List.{_∷_};
-ghost use Prim.Native.Nat.{ℕ, _+_, _-_, _*_, _<_, _≤_};
+ghost use Prim.Native.Nat.{_+_, _-_, _*_, _<_, _≤_};
 ghost use lib.ListN.{length, take, drop};
 ghost use Rattle.std.specs.Iters.{folded};
 ghost use Rattle.exchanges.specs.Plane.{last-round};

@@ -8,7 +8,7 @@ ghost use lib.ListN.{length, getD, take, drop};
 ghost use Rattle.std.specs.declared.option.Option.the-variants.{None};
 ghost use Rattle.exchanges.specs.Boards.{fits};
 ghost use Rattle.exchanges.specs.Plane.{last-round};
-ghost use Rattle.exchanges.specs.Asked.{due, short, Plain-asked, Firm-asked};
+ghost use Rattle.exchanges.specs.Asked.{due, short, Firm-asked};
 ghost use Rattle.exchanges.specs.Ran.{Ran};
 ghost use Rattle.exchanges.specs.Trees.{tree-size, grid, filled, reduced, workspace, tree-run, tree-meaning, tree-exchange};
 ghost use Rattle.exchanges.specs.Slots.{Room};

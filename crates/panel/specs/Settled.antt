@@ -8,9 +8,14 @@ use Rattle.std.specs.declared.option.Option.the-variants.{Some, None}
 use Rattle.std.specs.declared.result.Result.{Result}
 use Rattle.std.specs.declared.result.Result.the-variants.{Ok}
 use Rattle.labels.specs.declared.refusal.Refusal.{Refusal}
+use Rattle.labels.specs.Slip.{same-slip}
 use Rattle.labels.specs.declared.slip.Slip.{Slip}
 use Rattle.exchanges.specs.Boards.{count, Sound}
+use Rattle.exchanges.specs.Plane as planes
+use Rattle.exchanges.specs.Plane.{Plane}
+use Rattle.exchanges.specs.CutLines.{cut-plane}
 use Rattle.exchanges.specs.Exchange.{Exchange, Keeps}
+use Rattle.exchanges.specs.Trees.{tree-meaning}
 use Rattle.panel.specs.Slots.{Slot, Comparison}
 use Rattle.panel.specs.Panel.{State, at, Event, Lengths, phase, propose, refusal, after, verdict-place}
 
@@ -65,5 +70,8 @@ module _ {L : Type 0} (o : Comparison L) (m : List (Slot L)) where
 pub record Promised {L : Type 0} (o : Comparison L) (s : State L) (q : ℕ) (r : Result (Option L) Refusal) : Type 0 where
   -- the law of all histories
   pub always : (m : List (Slot L)) → Settled o m
+  -- our trees are exchanges that keep their meaning, over every backplane that keeps its own, with lines cut or none
+  pub trees : (t : ℕ) (b : Plane (Slip L)) → planes.Keeps b → Keeps (tree-meaning (same-slip o) t b)
+  pub cut-trees : (rows : List ℕ) (t : ℕ) (b : Plane (Slip L)) → planes.Keeps b → Keeps (tree-meaning (same-slip o) t (cut-plane rows b))
   -- for every history that leads here, the answer is v just where the board holds v
   pub told : (m : List (Slot L)) (h : List (Event L)) → s ≡ after o m h → (v : L) → (r ≡ Ok (Some v) → Holds o m h q v) × (Holds o m h q v → r ≡ Ok (Some v))
