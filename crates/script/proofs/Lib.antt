@@ -13,3 +13,4 @@ pub mod Scripts
 pub mod Obeying
 pub mod Told
 pub mod Trips
+pub mod Courses
