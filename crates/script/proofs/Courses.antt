@@ -1,13 +1,15 @@
 -- Lists of calls on a panel, one after another.
-use mathlib.Core.Path.{_≡_, refl, sym, ap, _∙_}
+use mathlib.Core.Path.{_≡_, refl, sym, ap, _∙_, subst}
+use mathlib.Core.Bool.{Bool, true, false, cond}
 use mathlib.Core.List.{List, [], _∷_, _++_, map, append-assoc, append-nil}
-use Prim.Native.Nat.{ℕ, zero, suc, _+_, _-_, _<_, _≤_}
+use Prim.Native.Nat.{ℕ, zero, suc, min, _+_, _-_, _<_, _≤_}
 use native.Mathlib.Omega.{arith}
+use lib.Dec.{T, ltb, ltb→lt}
 use lib.ListN.{length, take, drop, getD, set}
 use Rattle.std.proofs.shelf.Lists.{take-more, take-take, take-append-drop, length-take-le, drop-more, set-at}
 use Rattle.std.proofs.shelf.Counted.{length-map-counting, map-counting-more}
 use Rattle.std.specs.Iters.{counting}
-use Rattle.std.specs.Options.{orOther}
+use Rattle.std.specs.Options.{orOther, isSome}
 use Rattle.std.specs.Results.{ErrBy}
 use Rattle.std.specs.declared.option.Option.{Option}
 use Rattle.std.specs.declared.option.Option.the-variants.{Some, None}
@@ -17,10 +19,18 @@ use Rattle.labels.specs.Refusals.{row}
 use Rattle.labels.specs.declared.refusal.Refusal.{Refusal}
 use Rattle.labels.specs.declared.slip.Slip.{Slip}
 use Rattle.exchanges.specs.Exchange.{Exchange}
-use Rattle.panel.specs.Slots.{Comparison}
-use Rattle.panel.specs.Panel.{State, Event, Lengths, propose, phase, refusal, step, run, sizes, asks, after-asks}
-use Rattle.script.specs.Memory.{laid}
-use Rattle.script.specs.Runs.{first-refusal, proposing, phases, Went}
+use Rattle.exchanges.specs.declared.tree.Tree.{Tree}
+use Rattle.exchanges.specs.Trees.{tree-meaning, tree-exchange}
+use Rattle.labels.specs.Slip.{same-slip}
+use Rattle.panel.specs.Slots.{Slot, Comparison}
+use Rattle.panel.specs.Panel.{State, Event, after, Lengths, new, change, fit, propose, phase, refusal, step, run, sizes, asks, after-asks}
+use Rattle.script.specs.declared.model.Header.{Header}
+use Rattle.script.specs.declared.script_plane.ScriptBackplane.{ScriptBackplane}
+use Rattle.script.specs.Header.{bad-map}
+use Rattle.script.specs.ScriptAnswers.{script}
+use Rattle.script.specs.ScriptPlane.{script-plane}
+use Rattle.script.specs.Memory.{Lists, laid}
+use Rattle.script.specs.Runs.{first-refusal, Ran, verdicts, script-trees, borne, opening, proposing, phases, Went}
 
 pub both-none : (a b : Option ℕ) → orOther a b ≡ None → (a ≡ None) × (b ≡ None)
 both-none None b e = (refl, e)
@@ -134,9 +144,97 @@ module _ {L : Type 0} (o : Comparison L) (h p w h′ p′ w′ : ℕ) (eh : h′
       let same = same-call y (g .1) in (
         one-more o s (phases o (sizes h p w) s x i .calls) (phases o (sizes h p w) s x (i + 1) .calls) (phase (phases o (sizes h p w) s x i .exchange) (sizes h p w)) q q″ (g .0) next-calls (ap (refusal q) (sym same) ∙ a) (n ∙ ap (step o q) same),
         e ∙ (ap (λ u. after-asks y (asks o (u .boards) (u .faults) (u .phases + 1) y (u .slots))) (g .0 .1)
-        ∙ (ap (λ z. let u = run o s (phases o (sizes h p w) s x i .calls) in after-asks z (asks o (u .boards) (u .faults) (u .phases + 1) z (u .slots))) (g .1) ∙ sym (ap (λ k. phases o (sizes h p w) s x k .exchange) on))),
+            ∙ (ap (λ z. let u = run o s (phases o (sizes h p w) s x i .calls) in after-asks z (asks o (u .boards) (u .faults) (u .phases + 1) z (u .slots))) (g .1) ∙ sym (ap (λ k. phases o (sizes h p w) s x k .exchange) on))),
       )
 
   pub phase-stops : (n : ℕ) → i < n → (q : State L) (y : Exchange (Slip L)) (r : ℕ) → Stands q y → refusal q (phase y (sizes h′ p′ w′)) ≡ Some r → first-refusal o s (phases o (sizes h p w) s x n .calls) ≡ Some r
   phase-stops n lt q y r g a =
       one-stops o s (phases o (sizes h p w) s x i .calls) (phases o (sizes h p w) s x (i + 1) .calls) (phases o (sizes h p w) s x n .calls) (phase (phases o (sizes h p w) s x i .exchange) (sizes h p w)) q r (g .0) next-calls (phases-on o (sizes h p w) s x (i + 1) n (omega arith)) (ap (refusal q) (sym (same-call y (g .1))) ∙ a)
+
+module _ {L : Type 0} (o : Comparison L) where
+  chosen : (b : Bool) (u v : State L) → v .boards ≡ u .boards → cond b u v .boards ≡ u .boards
+  chosen true u v e = refl
+  chosen false u v e = e
+
+  proposing-boards : (q : ℕ) (vs : List L) (s : State L) → run o s (proposing q vs) .boards ≡ s .boards
+  proposing-boards q [] s = refl
+  proposing-boards q (v ∷ vs) s = proposing-boards (q + 1) vs (step o s (propose q v)) ∙ chosen (isSome (refusal s (propose q v))) s (change o s (propose q v)) refl
+
+  phases-boards : (l : Lengths) (s : State L) (x : Exchange (Slip L)) (k : ℕ) → run o s (phases o l s x k .calls) .boards ≡ s .boards
+  phases-boards l s x zero = refl
+  phases-boards l s x (suc k) =
+      let c = phases o l s x k in
+      let e = phase (c .exchange) l in
+      let u = run o s (c .calls) in
+      ap (λ z. z .boards) (run-append o s (c .calls) (e ∷ [])) ∙ (chosen (isSome (refusal u e)) u (change o u e) refl ∙ phases-boards l s x k)
+
+  -- a panel that was fitted by the script has its boards
+  pub opened-boards : (m : List (Slot L)) (h : Header) (ps : List L) (l : Lengths) (x : Exchange (Slip L)) (k : ℕ) → first-refusal o (new m) (opening h ps) ≡ None →
+      run o (run o (new m) (opening h ps)) (phases o l (run o (new m) (opening h ps)) x k .calls) .boards ≡ h .boards
+  opened-boards m h ps l x k e =
+      let f : Event L = fit (h .boards) (borne h) in
+      let b = both-none (refusal (new m) f) (first-refusal o (step o (new m) f) (proposing 0 (take (h .boards) ps))) e in
+      phases-boards l (run o (new m) (opening h ps)) x k ∙ (proposing-boards 0 (take (h .boards) ps) (step o (new m) f) ∙ ap (λ a. cond (isSome a) (new m) (change o (new m) f) .boards) (b .0))
+
+  pub went-on : {U : Type 0} (s : State L) (h k : List (Event L)) (s′ s″ : State L) (r : Result U Refusal) → Going o s h s′ → Went o s′ k s″ r → Went o s (h ++ k) s″ r
+  went-on s h k s′ s″ (Ok u) g w = going-on o s h k s′ s″ g w
+  went-on s h k s′ s″ (Err e) g w = stops o s h k s′ (row e) g w
+
+  pub went-open : {U : Type 0} (s : State L) (n t t′ : ℕ) (vs : List L) (k : ℕ) (s′ s″ : State L) (r : Result U Refusal) → t′ ≡ t → refusal s (fit n t′) ≡ None → s′ ≡ step o s (fit n t′) → take k vs ≡ take n vs →
+      Went o s′ (proposing 0 (take k vs)) s″ r → Went o s (fit n t ∷ proposing 0 (take n vs)) s″ r
+  went-open s n t t′ vs k s′ s″ r et a e ek w =
+      subst (λ z. Went o s (fit n z ∷ proposing 0 (take n vs)) s″ r) et (subst (λ z. Went o s (fit n t′ ∷ proposing 0 z) s″ r) ek
+      (went-on s (fit n t′ ∷ []) (proposing 0 (take k vs)) s′ s″ r (ap (λ u. orOther u None) a, e) w))
+
+  long : (n m : ℕ) (a b : Option ℕ) → n ≤ m → cond (ltb m n) a b ≡ b
+  long n m a b le = by (ltb m n) refl where
+    by : (t : Bool) → ltb m n ≡ t → cond t a b ≡ b
+    by false e = refl
+    by true e = absurd (omega (arith, ltb→lt m n (subst T (sym e) tt)))
+
+  ran-err : (m : List (Slot L)) (h : List (Event L)) (n k : ℕ) (vs : List (Option L)) (r : Result ℕ Refusal) (e : Refusal) → ErrBy r (λ y. y ≡ e) → n ≤ length vs → first-refusal o (new m) h ≡ Some (row e) → Ran o m h n k vs vs r
+  ran-err m h n k vs (Ok u) e b le f = absurd b
+  ran-err m h n k vs (Err y) e b le f = (long n (length vs) (Some 10) (first-refusal o (new m) h) le ∙ (f ∙ ap (λ z. Some (row z)) (sym b)), refl)
+
+  module _ (m : List (Slot L)) (h : Header) (ps : List L) (l : Lengths) (vs : List (Option L)) (le : h .boards ≤ length vs) (s : State L) (made : s ≡ new m) where
+    pub not-opened : (x : Exchange (Slip L)) (k : ℕ) (r : Result ℕ Refusal) (e : Refusal) → ErrBy r (λ y. y ≡ e) → first-refusal o s (opening h ps) ≡ Some (row e) →
+        Ran o m (opening h ps ++ phases o l (after o m (opening h ps)) x k .calls) (h .boards) k vs vs r
+    not-opened x k r e b f =
+        ran-err m (opening h ps ++ phases o l (after o m (opening h ps)) x k .calls) (h .boards) k vs r e b le (refused-first o (new m) (opening h ps) (phases o l (after o m (opening h ps)) x k .calls) (row e) (ap (λ u. first-refusal o u (opening h ps)) (sym made) ∙ f))
+
+    module _ (s′ : State L) (x y : Exchange (Slip L)) (same : y ≡ x) (k k′ : ℕ) (often : k′ ≡ k) (g : Going o s (opening h ps) s′) where
+      opened : Going o (new m) (opening h ps) s′
+      opened = subst (λ u. Going o u (opening h ps) s′) made g
+
+      calls-same : phases o l s′ y k′ .calls ≡ phases o l (after o m (opening h ps)) x k .calls
+      calls-same = λ i. phases o l (opened .1 i) (same i) (often i) .calls
+
+      pub not-run : (r : Result ℕ Refusal) (e : Refusal) → ErrBy r (λ y. y ≡ e) → first-refusal o s′ (phases o l s′ y k′ .calls) ≡ Some (row e) →
+          Ran o m (opening h ps ++ phases o l (after o m (opening h ps)) x k .calls) (h .boards) k vs vs r
+      not-run r e b f =
+          ran-err m (opening h ps ++ phases o l (after o m (opening h ps)) x k .calls) (h .boards) k vs r e b le (stops o (new m) (opening h ps) (phases o l (after o m (opening h ps)) x k .calls) s′ (row e) opened (ap (first-refusal o s′) (sym calls-same) ∙ f))
+
+      pub all-run : (s″ : State L) (vs′ : List (Option L)) → Going o s′ (phases o l s′ y k′ .calls) s″ → vs′ ≡ laid (verdicts (h .boards) s″) vs →
+          Ran o m (opening h ps ++ phases o l (after o m (opening h ps)) x k .calls) (h .boards) k vs vs′ (Ok k′)
+      all-run s″ vs′ w e =
+          let all = going-on o (new m) (opening h ps) (phases o l (after o m (opening h ps)) x k .calls) s′ s″ opened (subst (λ c. Going o s′ c s″) calls-same w) in
+          (long (h .boards) (length vs) (Some 10) _ le ∙ all .0, often, e ∙ ap (λ u. laid (verdicts (h .boards) u) vs) (all .1))
+
+      pub boards-there : (s″ : State L) → Going o s′ (phases o l s′ y k′ .calls) s″ → h .boards ≤ s″ .boards
+      boards-there s″ w =
+          let there : s″ .boards ≡ h .boards = ap (λ u. u .boards) (w .1) ∙ (ap (λ u. run o u (phases o l u y k′ .calls) .boards) (opened .1) ∙ opened-boards m h ps l y k′ (opened .0)) in
+          omega (arith, there)
+
+  pub same-trees : (h : Header) (count : ℕ) (m : Lists L) (x : Tree (ScriptBackplane (Slip L))) (b : ScriptBackplane (Slip L)) (bad t : ℕ) → x .plane ≡ b → script-plane b ≡ script (h .boards) bad (take count (m .records)) (m .slips) 0 → bad ≡ bad-map h → x .faults ≡ t → t ≡ borne h → tree-exchange (same-slip o) script-plane x ≡ script-trees o h count m
+  same-trees h count m x b bad t ex eb ed ef et =
+      let plane = ap script-plane ex ∙ (eb ∙ ap (λ d. script (h .boards) d (take count (m .records)) (m .slips) 0) ed) in
+      let faults = ef ∙ et in
+      λ i. tree-meaning (same-slip o) (faults i) (plane i)
+
+-- the first n, or as many as there are
+pub take-there : {X : Type 0} (n k : ℕ) (vs : List X) → k ≡ min n (length vs) → take k vs ≡ take n vs
+take-there zero k vs e = let z : k ≡ zero = omega arith in ap (λ j. take j vs) z
+take-there (suc n) k [] e = let z : k ≡ zero = omega arith in ap (λ j. take j []) z
+take-there (suc n) k (v ∷ vs) e =
+    let z : k ≡ suc (min n (length vs)) = omega arith in
+    ap (λ j. take j (v ∷ vs)) z ∙ ap (λ l. v ∷ l) (take-there n (min n (length vs)) vs refl)
