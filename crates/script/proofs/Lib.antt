@@ -8,8 +8,9 @@ pub mod Counting
 pub mod Storing
 pub mod Surveys
 pub mod Outputs
-pub mod Told
-pub mod Trips
 pub mod Tables
 pub mod Scripts
 pub mod Obeying
+pub mod Told
+pub mod Trips
+pub mod Courses

@@ -8,3 +8,4 @@ pub mod Passes
 pub mod ScriptAnswers
 pub mod Obeys
 pub mod ScriptPlane
+pub mod Runs

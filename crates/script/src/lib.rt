@@ -8,6 +8,7 @@ mod records;
 mod refusing;
 mod rows;
 mod rules;
+pub mod running;
 pub mod script_plane;
 mod script_rules;
 mod store;

@@ -24,7 +24,7 @@ use labels::refusal::Refusal;
 use labels::slip::Slip;
 
 // The map of bad boards.
-fn bad_boards(head: Header) -> u8
+pub(crate) fn bad_boards(head: Header) -> u8
     ensures { λ r. ⌜ r ≡ bad-map head ⌝ }
 {
     match head.bad {
