@@ -1,6 +1,8 @@
 // Runs many scripts. Each line of standard input is a script in hex, with a comment after `#`; for
-// each the program prints what `bench` prints, and whether writing what was read restores the bytes.
-use report::kinds::is_restored;
+// each the program prints what `bench` prints, and what writing it comes to, with just enough room and
+// with a byte too little. Last comes a script that is too long.
+use labels::fault::FaultDisplay;
+use report::kinds::restored;
 use report::kinds::show_script;
 use std::error::AnyError;
 use std::io::Read;
@@ -17,14 +19,21 @@ fn digit(byte: u8) -> Option<u8> {
     }
 }
 
+// What writing the script to an output of so many bytes comes to.
+fn show_written(rt: &LibcRuntime, script: &[u8], size: usize) -> Result<(), AnyError> {
+    match restored(rt.alloc(), script, size)? {
+        Ok(same) => println!(rt, "written to {size}: the same is {same}")?,
+        Err(fault) => println!(rt, "written to {size}: {fault}")?,
+    }
+    Ok(())
+}
+
 // One script, with the number of its line.
 fn show_line(rt: &LibcRuntime, number: usize, script: &[u8]) -> Result<(), AnyError> {
     println!(rt, "line {number}")?;
     show_script(rt, script)?;
-    if is_restored(rt.alloc(), script)? {
-        println!(rt, "restored")?;
-    }
-    Ok(())
+    show_written(rt, script, script.len())?;
+    show_written(rt, script, script.len().saturating_sub(1))
 }
 
 fn main(rt: LibcRuntime) -> Result<(), AnyError> {
@@ -49,7 +58,7 @@ fn main(rt: LibcRuntime) -> Result<(), AnyError> {
             if let Some(low) = digit(*byte) {
                 match high {
                     Some(first) => {
-                        script.push(first * 16 + low)?;
+                        script.push(first.wrapping_mul(16).wrapping_add(low))?;
                         high = None;
                     }
                     None => high = Some(low),
@@ -57,5 +66,6 @@ fn main(rt: LibcRuntime) -> Result<(), AnyError> {
             }
         }
     }
-    Ok(())
+    println!(rt, "a byte too many")?;
+    show_script(&rt, vec![in rt.alloc(); 0u8; 60_001]?.as_slice())
 }

@@ -1,6 +1,7 @@
 // A script in bytes, by the kind of its labels.
 use crate::results::show;
 use crate::trips::written_back;
+use labels::fault::Fault;
 use labels::frame_number::FrameNumber;
 use labels::kinds::FrameNumberDisplay;
 use labels::kinds::FrameNumberLabel;
@@ -35,10 +36,15 @@ pub fn show_script(rt: &LibcRuntime, input: &[u8]) -> Result<(), AnyError> {
     }
 }
 
-// Whether the bytes are a script that is the same after reading and writing it.
-pub fn is_restored(heap: Global, input: &[u8]) -> Result<bool, AllocError> {
+// Whether the script in the bytes, written to an output of so many bytes, is the same again; or the
+// fault of reading or writing it.
+pub fn restored(
+    heap: Global,
+    input: &[u8],
+    size: usize,
+) -> Result<Result<bool, Fault>, AllocError> {
     match stamp_named(input) {
-        Some(stamp) => written_back(heap, input, stamp),
-        None => written_back(heap, input, FrameNumber::new(0)),
+        Some(stamp) => written_back(heap, input, stamp, size),
+        None => written_back(heap, input, FrameNumber::new(0), size),
     }
 }
