@@ -1,4 +1,3 @@
-use native.Mathlib.Omega.{arith}
 use Rattle.panel.specs.Modelled.{state}
 use Rattle.script.specs.Runs.{borne}
 use Rattle.script.proofs.Courses.{went-open, take-there}

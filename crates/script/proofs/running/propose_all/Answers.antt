@@ -1,7 +1,6 @@
-use mathlib.Core.Path.{refl}
 use native.Mathlib.Omega.{arith}
-use Prim.Native.Nat.{_+_, _<_}
-use lib.ListN.{length, take}
+use Prim.Native.Nat.{_+_}
+use lib.ListN.{take}
 use Rattle.panel.specs.Modelled.{state}
 use Rattle.panel.specs.Panel.{propose}
 use Rattle.script.specs.Runs.{proposing}

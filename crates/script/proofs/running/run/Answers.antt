@@ -1,17 +1,13 @@
-use mathlib.Core.Path.{_≡_, refl, sym, ap, _∙_}
+use mathlib.Core.Path.{refl}
 use native.Mathlib.Omega.{arith}
-use Prim.Native.Nat.{_≤_}
-use lib.ListN.{length, take}
+use lib.ListN.{length}
 use Rattle.std.specs.Of.Vec.{vec-items}
 use Rattle.labels.specs.Slip.{same-slip}
 use Rattle.exchanges.specs.Trees.{tree-exchange}
-use Rattle.panel.specs.Modelled.{state}
 use Rattle.panel.specs.Panel.{sizes}
 use Rattle.script.specs.Memory.{lists}
-use Rattle.script.specs.Header.{bad-map}
-use Rattle.script.specs.ScriptAnswers.{script}
 use Rattle.script.specs.ScriptPlane.{script-plane}
-use Rattle.script.specs.Runs.{script-trees, phases-due, borne, opening, phases}
+use Rattle.script.specs.Runs.{script-trees, phases-due}
 use Rattle.script.proofs.Courses.{not-opened, not-run, all-run, boards-there, same-trees}
 use Rattle.script.proofs.running.run.Needs as need
 

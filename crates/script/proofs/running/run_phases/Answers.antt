@@ -1,11 +1,8 @@
-use mathlib.Core.Path.{_≡_, refl, sym, ap, _∙_}
-use native.Mathlib.Omega.{arith}
-use Prim.Native.Nat.{_+_, _<_}
 use lib.ListN.{length}
 use Rattle.panel.specs.Modelled.{state}
-use Rattle.panel.specs.Panel.{phase, sizes, Lengths}
+use Rattle.panel.specs.Panel.{sizes}
 use Rattle.script.specs.Runs.{phases}
-use Rattle.script.proofs.Courses.{one-stops, went-err, phases-on, phase-more, phase-stops}
+use Rattle.script.proofs.Courses.{went-err, phase-more, phase-stops}
 use Rattle.script.proofs.running.run_phases.Needs as need
 
 pub returns-in-Break-phase : need.returns-in-Break-phase

@@ -3,6 +3,7 @@ use crate::storage::HEARD;
 use crate::storage::MOST_BOARDS;
 use crate::storage::MOST_RECORDS;
 use crate::storage::MOST_SLIPS;
+use crate::storage::NO_RECORD;
 use crate::storage::PICKS;
 use crate::storage::SLOTS;
 use crate::storage::WORKSPACE;
@@ -20,14 +21,6 @@ use std::alloc::AllocError;
 use std::alloc::Global;
 use std::error::AnyError;
 use std::fmt::Display;
-
-// A record that says nothing.
-const NO_RECORD: Record = Record {
-    round: 0,
-    sender: 0,
-    lost: 0,
-    forged: 0,
-};
 
 // Runs a script over slots and blocks of its own; None where the run was refused.
 fn run_over<L: Label>(

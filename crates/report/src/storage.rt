@@ -1,4 +1,5 @@
 // Memory for any script that can be read.
+use script::model::Record;
 use std::alloc::AllocError;
 use std::alloc::Global;
 
@@ -20,6 +21,14 @@ pub const HEARD: usize = 49;
 pub const PICKS: usize = 392;
 
 pub const WORKSPACE: usize = 1_813;
+
+// A record that says nothing.
+pub(crate) const NO_RECORD: Record = Record {
+    round: 0,
+    sender: 0,
+    lost: 0,
+    forged: 0,
+};
 
 // So many copies of a value.
 pub fn filled<X: Copy>(heap: Global, value: X, count: usize) -> Result<Vec<X>, AllocError> {
