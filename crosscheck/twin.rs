@@ -1,4 +1,4 @@
-// A second implementation of script, trees and panel, written from the docs alone.
+// A second implementation of script, trees and panel, written from the rules and not from the proved code.
 use std::io::Read;
 type Slip = (u64, u8);
 type Slot = Option<Slip>;
