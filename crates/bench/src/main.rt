@@ -1,4 +1,6 @@
 // Runs the script on standard input with the tree exchange, and prints what each board settles on.
+#![tactic(auto)]
+
 use report::kinds::show_script;
 use report::storage::MOST_BYTES;
 use std::io::Read;

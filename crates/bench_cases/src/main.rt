@@ -1,6 +1,8 @@
 // Runs many scripts. Each line of standard input is a script in hex, with a comment after `#`; for
 // each the program prints what `bench` prints, and what writing it comes to, with just enough room and
 // with a byte too little. Last comes a script that is too long.
+#![tactic(auto)]
+
 use report::kinds::{restored, show_script};
 use std::io::Read;
 

@@ -2,6 +2,8 @@
 //
 // The input is one panel after another: the number of the label kind (one byte), the number of
 // boards (one byte), and a label for each board.
+#![tactic(auto)]
+
 mod firm_steps;
 mod settle_steps;
 mod traced;

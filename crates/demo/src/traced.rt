@@ -30,9 +30,9 @@ impl<B, I: Copy> Traced<B, I> {
 }
 
 impl<I: Copy, B: Backplane<I>> Backplane<I> for Traced<B, I> {
-    ghost plane = { traced_plane B.Backplane.plane };
+    ghost plane = { traced_plane B.plane };
 
-    ghost keeps = { λ b. B.Backplane.keeps b.below };
+    ghost keeps = { λ b. B.keeps b.below };
 
     fn boards(&self) -> u8 {
         self.below.boards()
@@ -47,7 +47,7 @@ impl<I: Copy, B: Backplane<I>> Backplane<I> for Traced<B, I> {
     }
 
     fn carry(&mut self, from: usize, to: usize, sent: Option<I>) -> Option<I>
-        ensures { Carried (traced_plane B.Backplane.plane self.old) (traced_plane B.Backplane.plane self.new) from to sent result }
+        ensures { Carried (traced_plane B.plane self.old) (traced_plane B.plane self.new) from to sent result }
     {
         let answer = self.below.carry(from, to, sent);
         let _ = self.answers.push(answer);

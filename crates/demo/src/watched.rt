@@ -47,9 +47,9 @@ impl<X, I: Copy> Watched<X, I> {
 }
 
 impl<I: Copy, X: Exchange<I>> Exchange<I> for Watched<X, I> {
-    ghost meaning = { watched_meaning X.Exchange.meaning };
+    ghost meaning = { watched_meaning X.meaning };
 
-    ghost keeps = { λ x. X.Exchange.keeps x.below };
+    ghost keeps = { λ x. X.keeps x.below };
 
     fn boards(&self) -> u8 {
         self.below.boards()

@@ -3,7 +3,7 @@ use Rattle.std.proofs.Common.{◌≡◌, ℕ, zero, suc, ◌<◌, ◌≤◌, con
 use Rattle.std.specs.List.{AllByRecursion as All}
 use Rattle.std.proofs.lemmas.Bool.{cases_eq}
 use Rattle.exchanges.specs.Plane.{Plane, turn, carry, after}
-use Rattle.exchanges.specs.Trees.{IsPath, same_path, Hop, hops, Run, hop, fill_round, fill, on}
+use Rattle.exchanges.specs.Trees.{IsPath, same_path, Hop, hops, Run, hop, fill_round, fill}
 use Rattle.exchanges.specs.Members.{In, At, in_hops, all_hops}
 use Rattle.exchanges.specs.Fill.{put_same, put_shorter}
 

@@ -1,5 +1,5 @@
 -- What a call that ran an exchange answers, as the exchange over the backplane says it. Assumes nothing.
-use Rattle.std.proofs.Common.{◌≡◌, ℕ, ◌+◌, ◌*◌, Bool, ◌||◌, ltb, List, [], ◌++◌, length, take, drop, Some, None, Ok, Err, Option, Result, ap, subst}
+use Rattle.std.proofs.Common.{◌≡◌, ℕ, ◌*◌, Bool, ◌||◌, ltb, List, [], ◌++◌, length, take, drop, Some, None, Ok, Err, Option, Result, ap, subst}
 use Rattle.labels.specs.declared.refusal.Refusal.{Refusal}
 use Rattle.labels.specs.Refusals.{row}
 use Rattle.exchanges.specs.Plane.{Plane}

@@ -1,5 +1,5 @@
 -- A backplane with lines cut.
-use Rattle.std.specs.Prelude.{ℕ, zero, suc, Bool, true, cond, not, ◌&&◌, ◌||◌, List, [], ◌∷◌, None, Option, slice_index}
+use Rattle.std.specs.Prelude.{ℕ, zero, suc, Bool, true, cond, not, ◌&&◌, ◌||◌, List, [], ◌∷◌, None, slice_index}
 use Rattle.exchanges.specs.Boards.{bit}
 use Rattle.exchanges.specs.Plane.{Plane, Call, turn, carry}
 use Rattle.exchanges.specs.declared.cut_lines.CutLines.{CutLines}

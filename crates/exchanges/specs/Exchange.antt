@@ -1,7 +1,5 @@
 -- What an exchange means.
-use Rattle.std.specs.Prelude.{◌≡◌, ℕ, ◌+◌, ◌*◌, ◌<◌, ◌≤◌, Bool, true, cond, not, ◌||◌, ◌⊎◌, List, [], ◌∷◌, ◌++◌, length, Some, None, Ok, Err, Option, Result, nat_le, slice_index_or}
-use Rattle.labels.specs.declared.refusal.Refusal.{Refusal}
-use Rattle.labels.specs.Refusals.{row, first_row}
+use Rattle.std.specs.Prelude.{◌≡◌, ℕ, ◌+◌, ◌*◌, ◌<◌, ◌≤◌, Bool, true, cond, ◌⊎◌, List, [], ◌∷◌, ◌++◌, length, None, Option, nat_le, slice_index_or}
 use Rattle.exchanges.specs.Boards.{fits, count, Sound}
 use Rattle.exchanges.specs.Plane.{last_round}
 

@@ -1,10 +1,10 @@
 -- What the rounds fill: each slot holds what the backplane answered to its sender's own slot.
-use Rattle.std.specs.Prelude.{◌≡◌, ℕ, zero, suc, ◌+◌, ◌<◌, ◌≤◌, true, false, ◌&&◌, ◌⊎◌, List, [], ◌∷◌, length, fold, Option, ◌==◌, nat_lt, refl}
+use Rattle.std.specs.Prelude.{◌≡◌, ℕ, zero, suc, ◌+◌, ◌<◌, ◌≤◌, true, ◌&&◌, ◌⊎◌, List, [], ◌∷◌, length, fold, Option, ◌==◌, nat_lt, refl}
 use Rattle.std.proofs.Common.{sym, ap, subst, ◌∙◌, inl, inr, arith}
 use Rattle.std.specs.List.{AllByRecursion as All}
 use Rattle.std.proofs.lemmas.Bool.{cases_Bool, cases_eq, cond-true, cond-false, and_parts, and_from, eqb-true, eq-eqb, false≢true, lt-ltb}
 use Rattle.exchanges.specs.Plane.{Plane, turn, carry, after, last_round, next_round}
-use Rattle.exchanges.specs.Trees.{IsPath, Trees, same_path, put, own, Hop, hops, Run, hop, fill}
+use Rattle.exchanges.specs.Trees.{IsPath, Trees, same_path, put, Hop, hops, Run, hop, fill}
 use Rattle.exchanges.specs.Frames.{Frame, frame_same, frame_then, frame_call}
 use Rattle.exchanges.specs.Members.{In, in_hops, all_long}
 

@@ -8,7 +8,6 @@ use Rattle.std.specs.List.{range_with_len}
 use Rattle.labels.specs.Item.{Tells}
 use Rattle.exchanges.specs.Boards.{fits, Sound, most_boards}
 use Rattle.exchanges.specs.Plane.{Plane}
-use Rattle.exchanges.specs.Plane as planes
 use Rattle.exchanges.specs.Exchange.{heard}
 use Rattle.exchanges.specs.Trees.{Trees, own, filled, reduced, grid, all_clear, tree_run, tree_way, TreesKeep}
 use Rattle.exchanges.specs.Frames.{sound_in}

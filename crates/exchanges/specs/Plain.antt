@@ -1,6 +1,6 @@
 -- A plain exchange over a backplane: a turn, and a carry for each pair, by sender and then receiver.
-use Rattle.std.specs.Prelude.{ℕ, zero, suc, ◌+◌, ◌*◌, List, [], ◌∷◌, replicate, None, Option, slice_index_or, slice_set}
-use Rattle.exchanges.specs.Plane.{Plane, Call, turn, carry, after}
+use Rattle.std.specs.Prelude.{ℕ, zero, suc, ◌+◌, ◌*◌, List, [], replicate, None, Option, slice_index_or, slice_set}
+use Rattle.exchanges.specs.Plane.{Plane, turn, carry, after}
 
 -- a backplane, with what the boards have heard: place p * n + q is for what p heard from q
 pub record Heard (I : Type 0) : Type 0 where

@@ -1,5 +1,5 @@
 -- What a path gets from its children.
-use Rattle.std.specs.Prelude.{◌≡◌, ℕ, ◌+◌, ◌-◌, ◌*◌, ◌<◌, ◌≤◌, Bool, true, false, ◌⊎◌, List, [], ◌∷◌, length, Some, None, count_by, Option, ◌≢◌, nat_le, refl}
+use Rattle.std.specs.Prelude.{◌≡◌, ℕ, ◌+◌, ◌-◌, ◌*◌, ◌<◌, ◌≤◌, Bool, true, ◌⊎◌, List, [], ◌∷◌, length, Some, None, count_by, Option, ◌≢◌, nat_le, refl}
 use Rattle.std.proofs.Common.{sym, ap, subst, ◌∙◌, inl, inr, arith, one-add}
 use Rattle.std.proofs.lemmas.Bool.{cases_Bool, both_ways, false≢true, leb-true, leb-false, cond-true, cond-false}
 use Rattle.labels.specs.Item.{Tells}

@@ -1,5 +1,5 @@
 -- A backplane whose bad boards give odd receivers one fixed item. All else passes as sent, and every round is clear.
-use Rattle.std.specs.Prelude.{ℕ, ◌%◌, Bool, true, cond, ◌&&◌, Some, None, Option, ◌==◌, nat_lt}
+use Rattle.std.specs.Prelude.{ℕ, ◌%◌, true, cond, ◌&&◌, Some, None, Option, ◌==◌, nat_lt}
 use Rattle.exchanges.specs.Boards.{bit}
 use Rattle.exchanges.specs.Plane.{Plane}
 use Rattle.exchanges.specs.declared.two_faced.TwoFaced.{TwoFaced}

@@ -35,9 +35,9 @@ impl<B> CutLines<B> {
 }
 
 impl<I: Copy, B: Backplane<I>> Backplane<I> for CutLines<B> {
-    ghost plane = { cut_lines_plane B.Backplane.plane };
+    ghost plane = { cut_lines_plane B.plane };
 
-    ghost keeps = { λ b. cut_keeps b.rows (B.Backplane.plane b.below) (B.Backplane.keeps b.below) };
+    ghost keeps = { λ b. cut_keeps b.rows (B.plane b.below) (B.keeps b.below) };
 
     fn boards(&self) -> u8 {
         self.below.boards()
@@ -52,7 +52,7 @@ impl<I: Copy, B: Backplane<I>> Backplane<I> for CutLines<B> {
     }
 
     fn carry(&mut self, from: usize, to: usize, sent: Option<I>) -> Option<I>
-        ensures { Carried (cut_lines_plane B.Backplane.plane self.old) (cut_lines_plane B.Backplane.plane self.new) from to sent result }
+        ensures { Carried (cut_lines_plane B.plane self.old) (cut_lines_plane B.plane self.new) from to sent result }
     {
         if is_cut(&self.rows, from, to) {
             return None;

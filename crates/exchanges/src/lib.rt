@@ -1,4 +1,6 @@
 // Backplanes that join boards, and exchanges over them.
+#![tactic(auto)]
+
 pub mod backplane;
 pub mod cut_lines;
 pub mod exchange;

@@ -61,7 +61,7 @@ fn send_to_each<I: Copy, B: Backplane<I>>(
     requires few { n ≤ most_boards }
     requires known { s < n }
     requires room { n * n ≤ length heard.old }
-    ensures { heard_at (B.Backplane.plane b.new) heard.new ≡ to_each n item s (heard_at (B.Backplane.plane b.old) heard.old) n }
+    ensures { heard_at (B.plane b.new) heard.new ≡ to_each n item s (heard_at (B.plane b.old) heard.old) n }
 {
     for d in 0..n {
         heard[place(n, d, s)] = b.carry(s, d, item);
@@ -78,7 +78,7 @@ fn send_all<I: Copy, B: Backplane<I>>(
     requires few { n ≤ most_boards }
     requires given { n ≤ length sent.now }
     requires room { n * n ≤ length heard.old }
-    ensures { heard_at (B.Backplane.plane b.new) heard.new ≡ from_each n sent.now (heard_at (B.Backplane.plane b.old) heard.old) n }
+    ensures { heard_at (B.plane b.new) heard.new ≡ from_each n sent.now (heard_at (B.plane b.old) heard.old) n }
 {
     for s in 0..n {
         send_to_each(b, n, s, sent[s], heard);
@@ -92,7 +92,7 @@ pub(crate) fn plain_over<I: Copy, B: Backplane<I>>(
     sent: &[Option<I>],
     heard: &mut [Option<I>],
 ) -> Result<(), Refusal>
-    ensures { Ran B.Backplane.plane plain_run b.old b.new sent.now (due (B.Backplane.plane b.old).boards faults (short (B.Backplane.plane b.old).boards sent.now heard.old) (B.Backplane.plane b.old).round 1) heard.old heard.new result }
+    ensures { Ran B.plane plain_run b.old b.new sent.now (due (B.plane b.old).boards faults (short (B.plane b.old).boards sent.now heard.old) (B.plane b.old).round 1) heard.old heard.new result }
 {
     let n = b.boards();
     let short = too_short(n, sent, heard);

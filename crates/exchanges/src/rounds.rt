@@ -40,7 +40,7 @@ fn send<I: Copy, B: Backplane<I>>(
     requires room { Room shape.n shape.t shape.size (length own.now) (length ws.old) }
     requires short { path.len ≤ shape.t }
     requires path { IsPath shape.n (q ∷ trail path.boards path.len) }
-    ensures { Worked (plane b.new) ws.new (fold (carried shape.n shape.size own.now) (record { plane = plane b.old; slots = ws.old }) (hops_from shape.n (trail path.boards path.len) q)) }
+    ensures { Worked (B.plane b.new) ws.new (fold (carried shape.n shape.size own.now) (record { plane = B.plane b.old; slots = ws.old }) (hops_from shape.n (trail path.boards path.len) q)) }
 {
     let size = shape.size;
     let place = path.add(q as u8).place(shape.n);
@@ -61,7 +61,7 @@ fn relay<I: Copy, B: Backplane<I>>(
     requires room { Room shape.n shape.t shape.size (length own.now) (length ws.old) }
     requires short { path.len ≤ shape.t }
     requires path { IsPath shape.n (trail path.boards path.len) }
-    ensures { Worked (plane b.new) ws.new (fold (carried shape.n shape.size own.now) (record { plane = plane b.old; slots = ws.old }) (hops_on shape.n (trail path.boards path.len))) }
+    ensures { Worked (B.plane b.new) ws.new (fold (carried shape.n shape.size own.now) (record { plane = B.plane b.old; slots = ws.old }) (hops_on shape.n (trail path.boards path.len))) }
 {
     for q in 0..shape.n {
         if !path.has(q) {
@@ -82,7 +82,7 @@ fn spread<I: Copy, B: Backplane<I>>(
     requires room { Room shape.n shape.t shape.size (length own.now) (length ws.old) }
     requires short { path.len + more ≤ shape.t }
     requires path { IsPath shape.n (trail path.boards path.len) }
-    ensures { Worked (plane b.new) ws.new (fold (carried shape.n shape.size own.now) (record { plane = plane b.old; slots = ws.old }) (hops_under shape.n (trail path.boards path.len) more)) }
+    ensures { Worked (B.plane b.new) ws.new (fold (carried shape.n shape.size own.now) (record { plane = B.plane b.old; slots = ws.old }) (hops_under shape.n (trail path.boards path.len) more)) }
 {
     if more == 0 {
         relay(b, own, ws, shape, path);
@@ -103,9 +103,9 @@ pub(crate) fn gather<I: Copy, B: Backplane<I>>(
     shape: Shape,
 )
     requires room { Room shape.n shape.t shape.size (length own.now) (length ws.old) }
-    requires timely { (plane b.old).round + (shape.t + 1) ≤ last_round }
-    ensures plane { plane b.new ≡ (filled shape.n (shape.t + 1) (plane b.old) (take shape.n own.now)).plane }
-    ensures slots { Stands shape.n shape.t shape.size own.now ws.new (filled shape.n (shape.t + 1) (plane b.old) (take shape.n own.now)).trees }
+    requires timely { (B.plane b.old).round + (shape.t + 1) ≤ last_round }
+    ensures plane { B.plane b.new ≡ (filled shape.n (shape.t + 1) (B.plane b.old) (take shape.n own.now)).plane }
+    ensures slots { Stands shape.n shape.t shape.size own.now ws.new (filled shape.n (shape.t + 1) (B.plane b.old) (take shape.n own.now)).trees }
     ensures kept { drop (shape.n * shape.size) ws.new ≡ drop (shape.n * shape.size) ws.old }
 {
     for r in 0..shape.t + 1 {

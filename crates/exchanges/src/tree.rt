@@ -43,10 +43,10 @@ fn run_trees<I: Item, B: Backplane<I>>(
 )
     requires room { Room shape.n shape.t shape.size (length own.now) (length ws.old) }
     requires heard { shape.n * shape.n ≤ length heard.old }
-    requires timely { (plane b.old).round + (shape.t + 1) ≤ last_round }
-    ensures plane { plane b.new ≡ (filled shape.n (shape.t + 1) (plane b.old) (take shape.n own.now)).plane }
-    ensures heard { heard.new ≡ grid shape.n (λ p q. reduced same shape.n shape.t (filled shape.n (shape.t + 1) (plane b.old) (take shape.n own.now)).trees shape.t p (q ∷ [])) ++ drop (shape.n * shape.n) heard.old }
-    ensures work { ws.new ≡ workspace same shape.n shape.t (filled shape.n (shape.t + 1) (plane b.old) (take shape.n own.now)).trees ++ drop (shape.n * shape.size) ws.old }
+    requires timely { (B.plane b.old).round + (shape.t + 1) ≤ last_round }
+    ensures plane { B.plane b.new ≡ (filled shape.n (shape.t + 1) (B.plane b.old) (take shape.n own.now)).plane }
+    ensures heard { heard.new ≡ grid shape.n (λ p q. reduced I.same shape.n shape.t (filled shape.n (shape.t + 1) (B.plane b.old) (take shape.n own.now)).trees shape.t p (q ∷ [])) ++ drop (shape.n * shape.n) heard.old }
+    ensures work { ws.new ≡ workspace I.same shape.n shape.t (filled shape.n (shape.t + 1) (B.plane b.old) (take shape.n own.now)).trees ++ drop (shape.n * shape.size) ws.old }
 {
     gather(b, own, ws, shape);
     reduce_all(ws, shape);
@@ -84,8 +84,8 @@ pub(crate) fn firm_over<I: Item, B: Backplane<I>>(
     heard: &mut [Option<I>],
     work: &mut [Option<I>],
 ) -> Result<(), Refusal>
-    ensures ran { Ran B.Backplane.plane (tree_run I.Item.same faults) b.old b.new sent.now (due (B.Backplane.plane b.old).boards faults (short (B.Backplane.plane b.old).boards sent.now heard.old || nat_lt (length work.old) (tree_meaning I.Item.same faults (B.Backplane.plane b.old)).workspace) (B.Backplane.plane b.old).round (faults + 1)) heard.old heard.new result }
-    ensures left { Left I.Item.same faults (B.Backplane.plane b.old) sent.now work.old work.new result }
+    ensures ran { Ran B.plane (tree_run I.same faults) b.old b.new sent.now (due (B.plane b.old).boards faults (short (B.plane b.old).boards sent.now heard.old || nat_lt (length work.old) (tree_meaning I.same faults (B.plane b.old)).workspace) (B.plane b.old).round (faults + 1)) heard.old heard.new result }
+    ensures left { Left I.same faults (B.plane b.old) sent.now work.old work.new result }
 {
     let n = b.boards();
     let short = lacks_room(n, faults, sent, heard, work);
@@ -124,9 +124,9 @@ impl<B> Tree<B> {
 }
 
 impl<I: Item, B: Backplane<I>> Exchange<I> for Tree<B> {
-    ghost meaning = { tree_exchange I.Item.same B.Backplane.plane };
+    ghost meaning = { tree_exchange I.same B.plane };
 
-    ghost keeps = { λ x. trees_keep I.Item.same I.Item.tells x.faults (B.Backplane.plane x.plane) (B.Backplane.keeps x.plane) };
+    ghost keeps = { λ x. trees_keep I.same I.tells x.faults (B.plane x.plane) (B.keeps x.plane) };
 
     fn boards(&self) -> u8 {
         self.plane.boards()
@@ -159,8 +159,8 @@ impl<I: Item, B: Backplane<I>> Exchange<I> for Tree<B> {
         heard: &mut [Option<I>],
         work: &mut [Option<I>],
     ) -> Result<(), Refusal>
-        ensures asked { FirmAsked (tree_exchange I.Item.same B.Backplane.plane) self.old self.new sent.now heard.old heard.new work.old work.new result }
-        ensures left { Left I.Item.same self.old.faults (B.Backplane.plane self.old.plane) sent.now work.old work.new result }
+        ensures asked { FirmAsked (tree_exchange I.same B.plane) self.old self.new sent.now heard.old heard.new work.old work.new result }
+        ensures left { Left I.same self.old.faults (B.plane self.old.plane) sent.now work.old work.new result }
         ensures laws { TreeLaws I }
     {
         firm_over(&mut self.plane, self.faults, sent, heard, work)

@@ -8,7 +8,7 @@ use labels::item::Item;
 
 // Whether a slot holds the item.
 fn holds_item<I: Item>(slot: Option<I>, x: I) -> bool
-    ensures { result ≡ holds same x slot }
+    ensures { result ≡ holds I.same x slot }
 {
     match slot {
         Some(y) => x.is_same(y),
@@ -18,7 +18,7 @@ fn holds_item<I: Item>(slot: Option<I>, x: I) -> bool
 
 // How many slots hold the item.
 fn holding<I: Item>(slots: &[Option<I>], x: I) -> usize
-    ensures { result ≡ count_by (holds same x) slots.now }
+    ensures { result ≡ count_by (holds I.same x) slots.now }
 {
     let mut count = 0;
     for slot in slots {
@@ -29,7 +29,7 @@ fn holding<I: Item>(slots: &[Option<I>], x: I) -> usize
 
 // The first item that at least `need` of the slots hold, or silence.
 fn settled<I: Item>(slots: &[Option<I>], need: usize) -> Option<I>
-    ensures { result ≡ picked same need slots.now slots.now }
+    ensures { result ≡ picked I.same need slots.now slots.now }
 {
     for slot in slots {
         if let Some(x) = *slot {
@@ -44,7 +44,7 @@ fn settled<I: Item>(slots: &[Option<I>], need: usize) -> Option<I>
 // The same over `len` slots from `first`.
 fn settled_in<I: Item>(slots: &[Option<I>], first: usize, len: usize, need: usize) -> Option<I>
     requires { first + len ≤ length slots.now }
-    ensures { result ≡ picked same need (take len (drop first slots.now)) (take len (drop first slots.now)) }
+    ensures { result ≡ picked I.same need (take len (drop first slots.now)) (take len (drop first slots.now)) }
 {
     settled(&slots[first..first + len], need)
 }
@@ -55,7 +55,7 @@ fn reduce_at<I: Item>(ws: &mut [Option<I>], shape: Shape, p: usize, path: Path)
     requires board { p < shape.n }
     requires short { (1 ≤ path.len) × (path.len ≤ shape.t) }
     requires path { IsPath shape.n (trail path.boards path.len) }
-    ensures { ws.new ≡ settle same shape.n shape.t shape.size ws.old (record { board = p; path = trail path.boards path.len }) }
+    ensures { ws.new ≡ settle I.same shape.n shape.t shape.size ws.old (record { board = p; path = trail path.boards path.len }) }
 {
     let k = path.len();
     let first = p * shape.size + path.children(shape.n);
@@ -68,7 +68,7 @@ fn reduce_on<I: Item>(ws: &mut [Option<I>], shape: Shape, path: Path)
     requires room { Room shape.n shape.t shape.size shape.n (length ws.old) }
     requires short { (1 ≤ path.len) × (path.len ≤ shape.t) }
     requires path { IsPath shape.n (trail path.boards path.len) }
-    ensures { ws.new ≡ fold (settle same shape.n shape.t shape.size) ws.old (spots_on shape.n (trail path.boards path.len)) }
+    ensures { ws.new ≡ fold (settle I.same shape.n shape.t shape.size) ws.old (spots_on shape.n (trail path.boards path.len)) }
 {
     for p in 0..shape.n {
         reduce_at(ws, shape, p, path);
@@ -80,7 +80,7 @@ fn reduce_under<I: Item>(ws: &mut [Option<I>], shape: Shape, path: Path, more: u
     requires room { Room shape.n shape.t shape.size shape.n (length ws.old) }
     requires short { (1 ≤ path.len + more) × (path.len + more ≤ shape.t) }
     requires path { IsPath shape.n (trail path.boards path.len) }
-    ensures { ws.new ≡ fold (settle same shape.n shape.t shape.size) ws.old (spots_under shape.n (trail path.boards path.len) more) }
+    ensures { ws.new ≡ fold (settle I.same shape.n shape.t shape.size) ws.old (spots_under shape.n (trail path.boards path.len) more) }
 {
     if more == 0 {
         reduce_on(ws, shape, path);
@@ -96,7 +96,7 @@ fn reduce_under<I: Item>(ws: &mut [Option<I>], shape: Shape, path: Path, more: u
 // The paths of length t down to 1 reduced, for every board.
 pub(crate) fn reduce_all<I: Item>(ws: &mut [Option<I>], shape: Shape)
     requires room { Room shape.n shape.t shape.size shape.n (length ws.old) }
-    ensures { ws.new ≡ reduced_down same shape.n shape.t shape.size ws.old shape.t }
+    ensures { ws.new ≡ reduced_down I.same shape.n shape.t shape.size ws.old shape.t }
 {
     for j in 0..shape.t {
         reduce_under(ws, shape, Path::empty(), shape.t - j);

@@ -1,9 +1,9 @@
 -- Only a label's own bytes read as that label.
-use Rattle.std.specs.Prelude.{◌≡◌, ℕ, ◌+◌, ◌^◌, ◌<◌, ◌≤◌, Bool, true, false, cond, List, [], ◌∷◌, ◌++◌, length, take, drop, Some, None, Option, ◌==◌, refl}
+use Rattle.std.specs.Prelude.{◌≡◌, ℕ, ◌^◌, ◌<◌, ◌≤◌, Bool, true, false, cond, List, ◌++◌, length, take, drop, Some, None, Option, ◌==◌, refl}
 use Rattle.std.proofs.Common.{ap, sym, ◌∙◌, arith, take-append-drop, length-drop, eqb-true}
 use Rattle.std.proofs.Math.Decide.{dec_lt}
 use Rattle.std.proofs.lemmas.List.{take_all}
-use Rattle.labels.specs.Bytes.{Bytes, four_bytes}
+use Rattle.labels.specs.Bytes.{four_bytes}
 use Rattle.labels.specs.Coding.{Own}
 use Rattle.labels.specs.Kinds.{frame_if, stamp_if, frame_of, stamp_of, number_at, frame_coding, stamp_coding}
 use Rattle.labels.specs.declared.frame_number.FrameNumber.{FrameNumber}

@@ -1,4 +1,6 @@
 // Labels of exposures: their order, their bytes, slips, refusals and faults.
+#![tactic(auto)]
+
 pub mod fault;
 pub mod frame_number;
 pub mod item;

@@ -9,8 +9,8 @@ use crate::refusal::Refusal;
 
 // The label at a place, and the place after it.
 pub fn read_label<L: Label>(input: &[u8], place: usize) -> Result<(L, usize), Fault>
-    ensures value { answered result ≡ read_at L.Label.coding input.now place }
-    ensures trips { RoundTrips L.Label.coding }
+    ensures value { answered result ≡ read_at L.coding input.now place }
+    ensures trips { RoundTrips L.coding }
 {
     let width = L::byte_count();
     if input.len().saturating_sub(place) < width {
@@ -33,8 +33,8 @@ pub fn read_label<L: Label>(input: &[u8], place: usize) -> Result<(L, usize), Fa
 
 // Writes a label at a place, and answers the place after it; bytes before and after stay as they are.
 pub fn write_label<L: Label>(label: L, output: &mut [u8], place: usize) -> Result<usize, Fault>
-    ensures value { answered result ≡ write_at L.Label.coding label output.old place }
-    ensures after { output.new ≡ written L.Label.coding label output.old place }
+    ensures value { answered result ≡ write_at L.coding label output.old place }
+    ensures after { output.new ≡ written L.coding label output.old place }
 {
     let width = L::byte_count();
     if output.len().saturating_sub(place) < width {

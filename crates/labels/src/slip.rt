@@ -15,7 +15,7 @@ pub struct Slip<L> {
 
 // Two slips are the same when both parts are.
 impl<L: Ordered> Item for Slip<L> {
-    ghost same = { same_slip L.Ordered.order };
+    ghost same = { same_slip L.order };
 
     ghost tells = { Prim.search rules };
 

@@ -5,7 +5,7 @@ use crate::order::Ordered;
 
 // The place of the smallest label, the first of them where several are the same.
 pub fn smallest<L: Ordered>(labels: &[L]) -> Option<usize>
-    ensures { SmallestAt L.Ordered.order labels.now result }
+    ensures { SmallestAt L.order labels.now result }
 {
     if labels.is_empty() {
         return None;

@@ -1,5 +1,5 @@
 -- The choice and the counts keep their laws.
-use Rattle.std.proofs.Common.{◌≡◌, ℕ, ◌+◌, ◌-◌, ◌<◌, ◌≤◌, Bool, true, false, cond, not, eqb, leb, ◌⊎◌, is_some, Some, None, Option, Ordering, Less, Equal, Greater, sym, refl, ap, ◌∙◌, subst, inl, inr, arith}
+use Rattle.std.proofs.Common.{◌≡◌, ℕ, ◌+◌, ◌-◌, ◌<◌, ◌≤◌, Bool, true, false, cond, eqb, leb, ◌⊎◌, is_some, Some, None, Option, Ordering, Less, Equal, Greater, sym, refl, ap, ◌∙◌, subst, inl, inr, arith}
 use Rattle.std.proofs.lemmas.Bool.{or_left, or_right, lt-ltb, cases_lt, and_parts, and_from, eqb-true, eq-eqb, leb-true, le-leb, lt-leb, true≢false}
 use Rattle.exchanges.specs.Boards.{count}
 use Rattle.panel.specs.Slots.{Comparison, Slot, smaller, same, has_label, is_slip, label_of}

@@ -1,5 +1,5 @@
 -- A phase that the panel accepts, as a phase of the argument.
-use Rattle.std.proofs.Common.{◌≡◌, ℕ, zero, suc, ◌+◌, ◌-◌, ◌*◌, ◌<◌, ◌≤◌, Bool, true, false, cond, not, ◌&&◌, eqb, ltb, leb, ◌⊎◌, List, [], ◌∷◌, ◌++◌, map, length, get_or, set, is_some as option_is_some, Some, None, Option, sym, refl, ap, ◌∙◌, subst, inl, inr, mul-le-mul_right, suc-mul, zero-mul, arith}
+use Rattle.std.proofs.Common.{◌≡◌, ℕ, zero, suc, ◌+◌, ◌-◌, ◌*◌, ◌<◌, ◌≤◌, Bool, true, false, cond, ◌&&◌, eqb, ltb, leb, ◌⊎◌, List, [], ◌∷◌, ◌++◌, map, length, get_or, set, is_some as option_is_some, Some, None, Option, sym, refl, ap, ◌∙◌, subst, inl, inr, mul-le-mul_right, suc-mul, zero-mul, arith}
 use Rattle.std.proofs.lemmas.List.{get_or-set_same, get_or-set_other, length-set}
 use Rattle.std.proofs.lemmas.Bool.{and_parts, not-false, eqb-true, eq-eqb, ne_eqb, ltb-true, ltb-false, leb-false, le-leb, false≢true, cond-true, cond-false, cases_eq}
 use Rattle.std.proofs.lemmas.List.FromFn.{get_or-map-range_with_len, length-map-range_with_len}
@@ -12,7 +12,7 @@ use Rattle.exchanges.specs.Exchange.{Exchange, Keeps, Goes, AllSized, Few, Ask, 
 use Rattle.panel.specs.Slots.{Comparison, Slot, with_phase, or_else}
 use Rattle.labels.specs.declared.slip.Slip.{Slip}
 use Rattle.panel.specs.Phase.{enough}
-use Rattle.panel.specs.Panel.{State, at, put, Lengths, fit, phase, column, firsts, firm_row, new_pick, picked, pick_row, new_estimate, estimated, estimate_row, new_verdict, decided, table, refusal}
+use Rattle.panel.specs.Panel.{State, at, put, Lengths, phase, column, firsts, firm_row, new_pick, picked, pick_row, new_estimate, estimated, estimate_row, new_verdict, decided, table, refusal}
 use Rattle.panel.proofs.Counts.{count_all, count_same}
 use Rattle.panel.proofs.Slips.{none≢some}
 use Rattle.panel.proofs.Safe.{Phase, Safe}

@@ -1,5 +1,5 @@
 -- The steps of a phase one after another.
-use Rattle.std.proofs.Common.{◌≡◌, ℕ, zero, suc, ◌+◌, ◌-◌, ◌*◌, ◌<◌, ◌≤◌, Bool, true, false, cond, ◌&&◌, eqb, leb, ◌⊎◌, List, [], ◌∷◌, ◌++◌, map, length, get_or, take, drop, set, Some, None, Option, sym, refl, ap, ◌∙◌, subst, ⊎_elim, append_assoc, mul-le-mul_right, one-mul, zero-mul, arith}
+use Rattle.std.proofs.Common.{◌≡◌, ℕ, zero, suc, ◌+◌, ◌-◌, ◌*◌, ◌<◌, ◌≤◌, Bool, true, false, cond, ◌&&◌, eqb, leb, List, [], ◌∷◌, ◌++◌, map, length, get_or, take, drop, set, Some, None, Option, sym, refl, ap, ◌∙◌, subst, ⊎_elim, append_assoc, mul-le-mul_right, one-mul, zero-mul, arith}
 use borrow.Rule.Slice.PartMut.{put_mid}
 use Rattle.std.proofs.lemmas.Nat.{mul-add-lt}
 use Rattle.std.proofs.lemmas.List.{get_or_append_left, get_or-map, get_or-take, get_or-drop, length-map, length-take-le}
@@ -9,13 +9,13 @@ use Rattle.labels.specs.declared.slip.Slip.{Slip}
 use Rattle.labels.specs.Order.{Total}
 use Rattle.exchanges.specs.Boards.{count}
 use Rattle.exchanges.specs.Plane.{last_round}
-use Rattle.exchanges.specs.Exchange.{Exchange, Ask, plain, firm, heard, after_ask}
+use Rattle.exchanges.specs.Exchange.{Exchange, Ask, plain, firm, after_ask}
 use Rattle.panel.specs.Slots.{Slot, Comparison, same, is_slip, with_phase, label_of, or_else}
 use Rattle.panel.specs.Phase.{Row, as_claim, as_pick, later, only, heard_enough, best_heard, enough, choice_of, choice}
 use Rattle.panel.specs.Votes.{row_at, block_row}
 use Rattle.panel.specs.Panel.{at, column, put, firsts, firm_row, new_pick, picked, pick_row, new_estimate, estimated, estimate_row, new_verdict, decided, asks, after_asks}
 use Rattle.panel.specs.Steps.{Ready, Filled}
-use Rattle.panel.proofs.Slips.{slip, slip_path, claim_from, only_from}
+use Rattle.panel.proofs.Slips.{slip_path, claim_from, only_from}
 use Rattle.panel.proofs.Rows.{best_from}
 use Rattle.panel.proofs.Chosen.{choice_same}
 use Rattle.panel.proofs.Hearing.{after_snoc, fills_after}

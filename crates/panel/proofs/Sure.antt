@@ -4,7 +4,7 @@ use Rattle.std.proofs.lemmas.Bool.{or_left, or_right, eq-eqb, ltb-true, ltb-fals
 use Rattle.exchanges.specs.Boards.{count, Sound}
 use Rattle.panel.specs.Slots.{Comparison, same, Slot, has_label, is_slip, with_phase}
 use Rattle.labels.specs.declared.slip.Slip.{Slip}
-use Rattle.panel.specs.Phase.{Row, best, as_claim, as_pick, supports, unphased, choice_of, choice, enough}
+use Rattle.panel.specs.Phase.{Row, best, as_claim, as_pick, supports, unphased, choice_of, choice}
 use Rattle.panel.specs.Slots.{or_else}
 use Rattle.panel.proofs.Counts.{count_mono, count_or, count_not}
 use Rattle.panel.proofs.Slips.{slip, none≢some, same_refl, is_true, is_made, has_true, has_made, claim_from, claim_made, pick_made, unphased_from}

@@ -49,7 +49,7 @@ impl<'a, L: Ordered> Panel<'a, L> {
     // A panel over lent memory. It has no boards until it is fitted.
     pub fn new(slots: &'a mut [Option<Slip<L>>]) -> Panel<'a, L>
         ensures made { state result ≡ new slots.old }
-        ensures laws { Laws order }
+        ensures laws { Laws L.order }
         ensures worked { Worked }
     {
         Panel {
@@ -69,7 +69,7 @@ impl<'a, L: Ordered> Panel<'a, L> {
     // Sets the number of boards and of those that may be bad, and makes the boards' slots silent.
     pub fn fit(&mut self, n: u8, t: u8) -> Result<(), Refusal>
         ensures answer { Answers (refusal (state self.old) (fit n t)) result }
-        ensures next { state self.new ≡ step order (state self.old) (fit n t) }
+        ensures next { state self.new ≡ step L.order (state self.old) (fit n t) }
         ensures unaltered { Unaltered result self.old self.new }
     {
         if self.size.is_some() {
@@ -93,7 +93,7 @@ impl<'a, L: Ordered> Panel<'a, L> {
     // Makes a label the board's proposal and estimate.
     pub fn propose(&mut self, board: usize, label: L) -> Result<(), Refusal>
         ensures answer { Answers (refusal (state self.old) (propose board label)) result }
-        ensures next { state self.new ≡ step order (state self.old) (propose board label) }
+        ensures next { state self.new ≡ step L.order (state self.old) (propose board label) }
         ensures unaltered { Unaltered result self.old self.new }
     {
         let Some(size) = self.size else {
@@ -135,7 +135,7 @@ impl<'a, L: Ordered> Panel<'a, L> {
     // The verdict of a board, if it holds one. What is promised of verdicts stands here.
     pub fn verdict(&self, board: usize) -> Result<Option<L>, Refusal>
         ensures answer { AnswersWith (refusal (state self.now) (verdict board)) (label_of (at self.now.slots.now board verdict_place)) result }
-        ensures promise { Promised order (state self.now) board result }
+        ensures promise { Promised L.order (state self.now) board result }
     {
         self.held_verdict(board)
     }
@@ -156,7 +156,7 @@ impl<'a, L: Ordered> Panel<'a, L> {
         picks: usize,
         work: usize,
     ) -> Result<Size, Refusal>
-        ensures answer { Answers (refusal (state self.now) (phase (meaning exchange.now) (sizes heard picks work))) result }
+        ensures answer { Answers (refusal (state self.now) (phase (E.meaning exchange.now) (sizes heard picks work))) result }
         ensures size { SizedBy self.now.size result }
     {
         let Some(size) = self.size else {
@@ -191,13 +191,13 @@ impl<'a, L: Ordered> Panel<'a, L> {
         picks: &mut [Option<Slip<L>>],
         work: &mut [Option<Slip<L>>],
     ) -> Result<(), Refusal>
-        ensures answer { Answers (refusal (state self.old) (phase (meaning exchange.old) (sizes (length heard.old) (length picks.old) (length work.old)))) result }
-        ensures next { state self.new ≡ step order (state self.old) (phase (meaning exchange.old) (sizes (length heard.old) (length picks.old) (length work.old))) }
+        ensures answer { Answers (refusal (state self.old) (phase (E.meaning exchange.old) (sizes (length heard.old) (length picks.old) (length work.old)))) result }
+        ensures next { state self.new ≡ step L.order (state self.old) (phase (E.meaning exchange.old) (sizes (length heard.old) (length picks.old) (length work.old))) }
         ensures unaltered { Unaltered result self.old self.new }
-        ensures exchanged { Exchanged order meaning (state self.old) exchange.old exchange.new result }
+        ensures exchanged { Exchanged L.order E.meaning (state self.old) exchange.old exchange.new result }
         ensures heard { Kept ((state self.old).boards * (state self.old).boards) heard.old heard.new result }
         ensures picks { Kept (8 * ((state self.old).boards * (state self.old).boards)) picks.old picks.new result }
-        ensures work { Kept (meaning exchange.old).workspace work.old work.new result }
+        ensures work { Kept (E.meaning exchange.old).workspace work.old work.new result }
     {
         let size = self.admit(exchange, heard.len(), picks.len(), work.len())?;
         let n = size.boards as usize;

@@ -12,7 +12,7 @@ use labels::slip::Slip;
 
 // Whether a heard slip counts.
 fn counts_slip<L: Ordered>(vote: Vote<L>, s: Slip<L>) -> bool
-    ensures { result ≡ passes order vote (Some s) }
+    ensures { result ≡ passes L.order vote (Some s) }
 {
     match vote {
         Vote::Backs(label, phase) => label.is_equal(s.label) || s.phase < phase,
@@ -24,7 +24,7 @@ fn counts_slip<L: Ordered>(vote: Vote<L>, s: Slip<L>) -> bool
 
 // Whether a heard slot counts; silence never does.
 fn counts_for<L: Ordered>(vote: Vote<L>, slot: Option<Slip<L>>) -> bool
-    ensures { result ≡ passes order vote slot }
+    ensures { result ≡ passes L.order vote slot }
 {
     match slot {
         None => false,
@@ -35,7 +35,7 @@ fn counts_for<L: Ordered>(vote: Vote<L>, slot: Option<Slip<L>>) -> bool
 // How many of n boards were heard with a slot that counts, sender by sender.
 fn votes<L: Ordered>(heard: &[Option<Slip<L>>], start: usize, n: usize, vote: Vote<L>) -> usize
     requires { start + n < 2 ^ 64 }
-    ensures { result ≡ count (λ q. passes order vote (row_at heard.now start q)) n }
+    ensures { result ≡ count (λ q. passes L.order vote (row_at heard.now start q)) n }
 {
     let mut many: usize = 0;
     for q in 0..n {
@@ -46,14 +46,14 @@ fn votes<L: Ordered>(heard: &[Option<Slip<L>>], start: usize, n: usize, vote: Vo
 
 // Whether a slip has the greater number, or the same number and the smaller label.
 fn is_later<L: Ordered>(a: Slip<L>, b: Slip<L>) -> bool
-    ensures { result ≡ later order a b }
+    ensures { result ≡ later L.order a b }
 {
     b.phase < a.phase || (b.phase == a.phase && a.label.is_below(b.label))
 }
 
 // The later of two slots.
 fn later_of<L: Ordered>(a: Option<Slip<L>>, b: Option<Slip<L>>) -> Option<Slip<L>>
-    ensures { result ≡ better (later order) a b }
+    ensures { result ≡ better (later L.order) a b }
 {
     let Some(x) = a else {
         return b;
@@ -73,7 +73,7 @@ fn is_oftener<L: Ordered>(
     b: Slip<L>,
 ) -> bool
     requires { start + n < 2 ^ 64 }
-    ensures { result ≡ ahead (wins_often order) (λ s. times order n (row_at claims.now start) s.label) a b }
+    ensures { result ≡ ahead (wins_often L.order) (λ s. times L.order n (row_at claims.now start) s.label) a b }
 {
     let x = votes(claims, start, n, Vote::Says(a.label));
     let y = votes(claims, start, n, Vote::Says(b.label));
@@ -89,7 +89,7 @@ fn oftener_of<L: Ordered>(
     b: Option<Slip<L>>,
 ) -> Option<Slip<L>>
     requires { start + n < 2 ^ 64 }
-    ensures { result ≡ better (ahead (wins_often order) (λ s. times order n (row_at claims.now start) s.label)) a b }
+    ensures { result ≡ better (ahead (wins_often L.order) (λ s. times L.order n (row_at claims.now start) s.label)) a b }
 {
     let Some(x) = a else {
         return b;
@@ -107,7 +107,7 @@ fn oftener_of<L: Ordered>(
 // A claim of the label heard most often.
 fn most_common<L: Ordered>(claims: &[Option<Slip<L>>], start: usize, n: usize) -> Option<Slip<L>>
     requires { start + n < 2 ^ 64 }
-    ensures { result ≡ most_often order n (row_at claims.now start) }
+    ensures { result ≡ most_often L.order n (row_at claims.now start) }
 {
     let mut top = None;
     for q in 0..n {
@@ -126,7 +126,7 @@ fn if_enough<L: Ordered>(
     slot: Option<Slip<L>>,
 ) -> Option<Slip<L>>
     requires { start + n < 2 ^ 64 }
-    ensures { result ≡ only (heard_enough order n many phase (row_at heard.now start)) slot }
+    ensures { result ≡ only (heard_enough L.order n many phase (row_at heard.now start)) slot }
 {
     let Some(s) = slot else {
         return None;
@@ -147,7 +147,7 @@ pub(crate) fn heard_often<L: Ordered>(
     phase: u8,
 ) -> Option<Slip<L>>
     requires { start + n < 2 ^ 64 }
-    ensures { result ≡ best_heard order n many phase (row_at heard.now start) }
+    ensures { result ≡ best_heard L.order n many phase (row_at heard.now start) }
 {
     let mut top = None;
     for q in 0..n {
@@ -169,7 +169,7 @@ fn is_backed<L: Ordered>(
     requires small { n ≤ 7 }
     requires fewer { t ≤ n }
     requires within { p < n }
-    ensures { result ≡ nat_le (n - t) (count (λ q. supports order s.label s.phase (row_at blocks.now (p * n) q)) n) }
+    ensures { result ≡ nat_le (n - t) (count (λ q. supports L.order s.label s.phase (row_at blocks.now (p * n) q)) n) }
 {
     n - t <= votes(blocks, p * n, n, Vote::Backs(s.label, s.phase))
 }
@@ -185,7 +185,7 @@ fn is_picked<L: Ordered>(
     requires small { n ≤ 7 }
     requires fewer { t ≤ n }
     requires within { p < n }
-    ensures { result ≡ nat_le (t + 1) (count (λ q. is_slip order s.label s.phase (block_row n p blocks.now s.phase q)) n) }
+    ensures { result ≡ nat_le (t + 1) (count (λ q. is_slip L.order s.label s.phase (block_row n p blocks.now s.phase q)) n) }
 {
     let start = s.phase as usize * (n * n) + p * n;
     t + 1 <= votes(blocks, start, n, Vote::Matches(s.label, s.phase))
@@ -202,7 +202,7 @@ fn stands_up<L: Ordered>(
     requires small { n ≤ 7 }
     requires fewer { t ≤ n }
     requires within { p < n }
-    ensures { result ≡ stands order n t (row_at blocks.now (p * n)) (block_row n p blocks.now) s }
+    ensures { result ≡ stands L.order n t (row_at blocks.now (p * n)) (block_row n p blocks.now) s }
 {
     if s.phase == 0 {
         return false;
@@ -224,7 +224,7 @@ fn if_standing<L: Ordered>(
     requires small { n ≤ 7 }
     requires fewer { t ≤ n }
     requires within { p < n }
-    ensures { result ≡ only (stands order n t (row_at blocks.now (p * n)) (block_row n p blocks.now)) slot }
+    ensures { result ≡ only (stands L.order n t (row_at blocks.now (p * n)) (block_row n p blocks.now)) slot }
 {
     let Some(s) = slot else {
         return None;
@@ -246,7 +246,7 @@ fn best_standing<L: Ordered>(
     requires small { n ≤ 7 }
     requires fewer { t ≤ n }
     requires within { p < n }
-    ensures { result ≡ standing order n t (row_at blocks.now (p * n)) (block_row n p blocks.now) }
+    ensures { result ≡ standing L.order n t (row_at blocks.now (p * n)) (block_row n p blocks.now) }
 {
     let mut top = None;
     for q in 0..n {
@@ -266,7 +266,7 @@ pub(crate) fn choose<L: Ordered>(
     requires small { n ≤ 7 }
     requires fewer { t ≤ n }
     requires within { p < n }
-    ensures { result ≡ choice_of order n t (row_at blocks.now (p * n)) (block_row n p blocks.now) }
+    ensures { result ≡ choice_of L.order n t (row_at blocks.now (p * n)) (block_row n p blocks.now) }
 {
     if let Some(s) = best_standing(n, t, blocks, p) {
         return Some(s.label);

@@ -1,4 +1,6 @@
 // Agreement of boards on a label.
+#![tactic(auto)]
+
 mod calls;
 mod counting;
 mod held;

@@ -31,7 +31,7 @@ fn choose_pick<L: Ordered>(
     requires small { n ≤ 7 }
     requires fewer { t ≤ n }
     requires within { p < n }
-    ensures { slots.new ≡ slice_set slots.old (10 * p + phase) (with_phase phase (choice_of order n t (row_at blocks.now (p * n)) (block_row n p blocks.now))) }
+    ensures { slots.new ≡ slice_set slots.old (10 * p + phase) (with_phase phase (choice_of L.order n t (row_at blocks.now (p * n)) (block_row n p blocks.now))) }
 {
     let pick = match choose(n, t, blocks, p) {
         Some(label) => Some(Slip { label, phase }),
@@ -50,7 +50,7 @@ fn choose_picks<L: Ordered>(
 )
     requires small { n ≤ 7 }
     requires fewer { t ≤ n }
-    ensures { slots.new ≡ put phase (λ p. with_phase phase (choice_of order n t (row_at blocks.now (p * n)) (block_row n p blocks.now))) slots.old n }
+    ensures { slots.new ≡ put phase (λ p. with_phase phase (choice_of L.order n t (row_at blocks.now (p * n)) (block_row n p blocks.now))) slots.old n }
 {
     for p in 0..n {
         choose_pick(slots, n, t, phase, blocks, p);
@@ -69,7 +69,7 @@ fn adopt_one<L: Ordered>(
     requires small { n ≤ 7 }
     requires fewer { t ≤ n }
     requires within { p < n }
-    ensures { slots.new ≡ slice_set slots.old (10 * p + 0) (or_else (best_heard order n (n - t) phase (row_at heard.now (p * n))) (at slots.old p 0)) }
+    ensures { slots.new ≡ slice_set slots.old (10 * p + 0) (or_else (best_heard L.order n (n - t) phase (row_at heard.now (p * n))) (at slots.old p 0)) }
 {
     let kept = slot_at(slots, 10 * p + ESTIMATE);
     let taken = heard_often(heard, p * n, n, n - t, phase);
@@ -86,7 +86,7 @@ fn adopt<L: Ordered>(
 )
     requires small { n ≤ 7 }
     requires fewer { t ≤ n }
-    ensures { slots.new ≡ put 0 (λ p. or_else (best_heard order n (n - t) phase (row_at heard.now (p * n))) (at slots.old p 0)) slots.old n }
+    ensures { slots.new ≡ put 0 (λ p. or_else (best_heard L.order n (n - t) phase (row_at heard.now (p * n))) (at slots.old p 0)) slots.old n }
 {
     for p in 0..n {
         adopt_one(slots, n, t, phase, heard, p);
@@ -105,7 +105,7 @@ fn settle_one<L: Ordered>(
     requires small { n ≤ 7 }
     requires fewer { t ≤ n }
     requires within { p < n }
-    ensures { slots.new ≡ slice_set slots.old (10 * p + 9) (or_else (at slots.old p 9) (best_heard order n (2 * t + 1) phase (row_at heard.now (p * n)))) }
+    ensures { slots.new ≡ slice_set slots.old (10 * p + 9) (or_else (at slots.old p 9) (best_heard L.order n (2 * t + 1) phase (row_at heard.now (p * n)))) }
 {
     let kept = slot_at(slots, 10 * p + VERDICT);
     let taken = heard_often(heard, p * n, n, 2 * t + 1, phase);
@@ -122,7 +122,7 @@ fn settle<L: Ordered>(
 )
     requires small { n ≤ 7 }
     requires fewer { t ≤ n }
-    ensures { slots.new ≡ put 9 (λ p. or_else (at slots.old p 9) (best_heard order n (2 * t + 1) phase (row_at heard.now (p * n)))) slots.old n }
+    ensures { slots.new ≡ put 9 (λ p. or_else (at slots.old p 9) (best_heard L.order n (2 * t + 1) phase (row_at heard.now (p * n)))) slots.old n }
 {
     for p in 0..n {
         settle_one(slots, n, t, phase, heard, p);
@@ -143,10 +143,10 @@ fn hear_firm<L: Ordered, E: Exchange<Slip<L>>>(
     requires inside { place ≤ 9 }
     requires wide { n ≤ length sent.old }
     requires square { length heard.old ≡ n * n }
-    requires ready { Ready (meaning exchange.old) n (length work.old) }
-    requires rounds { (meaning exchange.old).round + (meaning exchange.old).firm_rounds ≤ last_round }
-    ensures leaves { meaning exchange.new ≡ after_ask (meaning exchange.old) (firm (column n slots.now place)) }
-    ensures fills { heard.new ≡ (meaning exchange.old).fills [] (firm (column n slots.now place)) }
+    requires ready { Ready (E.meaning exchange.old) n (length work.old) }
+    requires rounds { (E.meaning exchange.old).round + (E.meaning exchange.old).firm_rounds ≤ last_round }
+    ensures leaves { E.meaning exchange.new ≡ after_ask (E.meaning exchange.old) (firm (column n slots.now place)) }
+    ensures fills { heard.new ≡ (E.meaning exchange.old).fills [] (firm (column n slots.now place)) }
 {
     copy_column(slots, place, n, sent);
     let _ = exchange.firm(sent, heard, work);
@@ -165,10 +165,10 @@ fn hear_plain<L: Ordered, E: Exchange<Slip<L>>>(
     requires inside { place ≤ 9 }
     requires wide { n ≤ length sent.old }
     requires square { length heard.old ≡ n * n }
-    requires ready { Ready (meaning exchange.old) n (meaning exchange.old).workspace }
-    requires rounds { (meaning exchange.old).round + 1 ≤ last_round }
-    ensures leaves { meaning exchange.new ≡ after_ask (meaning exchange.old) (plain (column n slots.now place)) }
-    ensures fills { heard.new ≡ (meaning exchange.old).fills [] (plain (column n slots.now place)) }
+    requires ready { Ready (E.meaning exchange.old) n (E.meaning exchange.old).workspace }
+    requires rounds { (E.meaning exchange.old).round + 1 ≤ last_round }
+    ensures leaves { E.meaning exchange.new ≡ after_ask (E.meaning exchange.old) (plain (column n slots.now place)) }
+    ensures fills { heard.new ≡ (E.meaning exchange.old).fills [] (plain (column n slots.now place)) }
 {
     copy_column(slots, place, n, sent);
     let _ = exchange.plain(sent, heard);
@@ -189,10 +189,10 @@ fn hear_block<L: Ordered, E: Exchange<Slip<L>>>(
     requires inside { place ≤ 9 }
     requires wide { n ≤ length sent.old }
     requires within { start + n * n ≤ length blocks.old }
-    requires ready { Ready (meaning exchange.old) n (length work.old) }
-    requires rounds { (meaning exchange.old).round + (meaning exchange.old).firm_rounds ≤ last_round }
-    ensures leaves { meaning exchange.new ≡ after_ask (meaning exchange.old) (firm (column n slots.now place)) }
-    ensures here { take (n * n) (drop start blocks.new) ≡ (meaning exchange.old).fills [] (firm (column n slots.now place)) }
+    requires ready { Ready (E.meaning exchange.old) n (length work.old) }
+    requires rounds { (E.meaning exchange.old).round + (E.meaning exchange.old).firm_rounds ≤ last_round }
+    ensures leaves { E.meaning exchange.new ≡ after_ask (E.meaning exchange.old) (firm (column n slots.now place)) }
+    ensures here { take (n * n) (drop start blocks.new) ≡ (E.meaning exchange.old).fills [] (firm (column n slots.now place)) }
     ensures before { take start blocks.new ≡ take start blocks.old }
 {
     let area = n * n;
@@ -215,10 +215,10 @@ fn hear_all<L: Ordered, E: Exchange<Slip<L>>>(
     requires last { phase ≤ 8 }
     requires wide { n ≤ length sent.old }
     requires room { phase * (n * n) ≤ length blocks.old }
-    requires ready { Ready (meaning exchange.old) n (length work.old) }
-    requires rounds { (meaning exchange.old).round + phase * (meaning exchange.old).firm_rounds ≤ last_round }
-    ensures leaves { meaning exchange.new ≡ after_asks (meaning exchange.old) (firsts n slots.now phase) }
-    ensures fills { Filled (meaning exchange.old) n slots.now phase blocks.new }
+    requires ready { Ready (E.meaning exchange.old) n (length work.old) }
+    requires rounds { (E.meaning exchange.old).round + phase * (E.meaning exchange.old).firm_rounds ≤ last_round }
+    ensures leaves { E.meaning exchange.new ≡ after_asks (E.meaning exchange.old) (firsts n slots.now phase) }
+    ensures fills { Filled (E.meaning exchange.old) n slots.now phase blocks.new }
 {
     for g in 0..phase {
         hear_block(exchange, slots, g, n, sent, blocks, g * (n * n), work);
@@ -242,10 +242,10 @@ fn choose_step<L: Ordered, E: Exchange<Slip<L>>>(
     requires last { phase ≤ 8 }
     requires wide { n ≤ length sent.old }
     requires room { 8 * (n * n) ≤ length blocks.old }
-    requires ready { Ready (meaning exchange.old) n (length work.old) }
-    requires rounds { (meaning exchange.old).round + phase * (meaning exchange.old).firm_rounds ≤ last_round }
-    ensures slots { slots.new ≡ picked order n t phase (meaning exchange.old) slots.old }
-    ensures exchange { meaning exchange.new ≡ after_asks (meaning exchange.old) (firsts n slots.old phase) }
+    requires ready { Ready (E.meaning exchange.old) n (length work.old) }
+    requires rounds { (E.meaning exchange.old).round + phase * (E.meaning exchange.old).firm_rounds ≤ last_round }
+    ensures slots { slots.new ≡ picked L.order n t phase (E.meaning exchange.old) slots.old }
+    ensures exchange { E.meaning exchange.new ≡ after_asks (E.meaning exchange.old) (firsts n slots.old phase) }
 {
     hear_all(exchange, slots, n, phase as usize, sent, blocks, work);
     keep_claims(&mut blocks[0..n * n], phase);
@@ -267,10 +267,10 @@ fn adopt_step<L: Ordered, E: Exchange<Slip<L>>>(
     requires last { phase ≤ 8 }
     requires wide { n ≤ length sent.old }
     requires square { length heard.old ≡ n * n }
-    requires ready { Ready (meaning exchange.old) n (meaning exchange.old).workspace }
-    requires rounds { (meaning exchange.old).round + 1 ≤ last_round }
-    ensures slots { slots.new ≡ put 0 (λ p. or_else (best_heard order n (n - t) phase (row_at ((meaning exchange.old).fills [] (plain (column n slots.old phase))) (p * n))) (at slots.old p 0)) slots.old n }
-    ensures exchange { meaning exchange.new ≡ after_ask (meaning exchange.old) (plain (column n slots.old phase)) }
+    requires ready { Ready (E.meaning exchange.old) n (E.meaning exchange.old).workspace }
+    requires rounds { (E.meaning exchange.old).round + 1 ≤ last_round }
+    ensures slots { slots.new ≡ put 0 (λ p. or_else (best_heard L.order n (n - t) phase (row_at ((E.meaning exchange.old).fills [] (plain (column n slots.old phase))) (p * n))) (at slots.old p 0)) slots.old n }
+    ensures exchange { E.meaning exchange.new ≡ after_ask (E.meaning exchange.old) (plain (column n slots.old phase)) }
 {
     hear_plain(exchange, slots, phase as usize, n, sent, heard);
     adopt(slots, n, t, phase, heard);
@@ -290,10 +290,10 @@ fn settle_step<L: Ordered, E: Exchange<Slip<L>>>(
     requires fewer { t ≤ n }
     requires wide { n ≤ length sent.old }
     requires square { length heard.old ≡ n * n }
-    requires ready { Ready (meaning exchange.old) n (meaning exchange.old).workspace }
-    requires rounds { (meaning exchange.old).round + 1 ≤ last_round }
-    ensures slots { slots.new ≡ put 9 (λ p. or_else (at slots.old p 9) (best_heard order n (2 * t + 1) phase (row_at ((meaning exchange.old).fills [] (plain (column n slots.old 0))) (p * n)))) slots.old n }
-    ensures exchange { meaning exchange.new ≡ after_ask (meaning exchange.old) (plain (column n slots.old 0)) }
+    requires ready { Ready (E.meaning exchange.old) n (E.meaning exchange.old).workspace }
+    requires rounds { (E.meaning exchange.old).round + 1 ≤ last_round }
+    ensures slots { slots.new ≡ put 9 (λ p. or_else (at slots.old p 9) (best_heard L.order n (2 * t + 1) phase (row_at ((E.meaning exchange.old).fills [] (plain (column n slots.old 0))) (p * n)))) slots.old n }
+    ensures exchange { E.meaning exchange.new ≡ after_ask (E.meaning exchange.old) (plain (column n slots.old 0)) }
 {
     hear_plain(exchange, slots, ESTIMATE, n, sent, heard);
     settle(slots, n, t, phase, heard);
@@ -317,10 +317,10 @@ pub(crate) fn run_phase<L: Ordered, E: Exchange<Slip<L>>>(
     requires last { phase ≤ 8 }
     requires square { length heard.old ≡ n * n }
     requires room { 8 * (n * n) ≤ length blocks.old }
-    requires ready { Ready (meaning exchange.old) n (length work.old) }
-    requires rounds { (meaning exchange.old).round + phase * (meaning exchange.old).firm_rounds + 2 ≤ last_round }
-    ensures slots { slots.new ≡ decided order n t phase (meaning exchange.old) slots.old }
-    ensures exchange { meaning exchange.new ≡ after_asks (meaning exchange.old) (asks order n t phase (meaning exchange.old) slots.old) }
+    requires ready { Ready (E.meaning exchange.old) n (length work.old) }
+    requires rounds { (E.meaning exchange.old).round + phase * (E.meaning exchange.old).firm_rounds + 2 ≤ last_round }
+    ensures slots { slots.new ≡ decided L.order n t phase (E.meaning exchange.old) slots.old }
+    ensures exchange { E.meaning exchange.new ≡ after_asks (E.meaning exchange.old) (asks L.order n t phase (E.meaning exchange.old) slots.old) }
 {
     choose_step(slots, n, t, phase, exchange, heard, blocks, work);
     adopt_step(slots, n, t, phase, exchange, blocks, heard);

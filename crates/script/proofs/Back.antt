@@ -1,18 +1,16 @@
 -- Bytes that read as a script are the bytes of that script.
-use Rattle.std.proofs.Common.{◌≡◌, ℕ, zero, suc, ◌+◌, ◌-◌, ◌*◌, ◌/◌, ◌%◌, ◌^◌, ◌<◌, ◌≤◌, Bool, true, false, cond, not, ◌&&◌, eqb, ltb, leb, List, [], ◌∷◌, ◌++◌, length, take, drop, is_some, Some, None, Ok, Err, Option, Result, sym, refl, ap, ◌∙◌, subst, append_assoc, append-nil, arith, take-append-drop, ltb-false, eqb-true, leb-true}
-use lib.Bits.{bit_and}
+use Rattle.std.proofs.Common.{◌≡◌, ℕ, zero, suc, ◌+◌, ◌*◌, ◌/◌, ◌%◌, ◌^◌, ◌<◌, ◌≤◌, Bool, true, false, not, eqb, ltb, leb, List, [], ◌∷◌, ◌++◌, length, take, drop, is_some, Some, None, Ok, Option, sym, refl, ap, ◌∙◌, subst, append_assoc, arith, take-append-drop, ltb-false, eqb-true, leb-true}
 use lib.Count.{ones}
-use Rattle.std.proofs.lemmas.List.{drop-drop, drop_all, length-append}
+use Rattle.std.proofs.lemmas.List.{drop-drop, drop_all}
 use Rattle.script.specs.declared.model.Header.{Header}
 use Rattle.script.specs.declared.model.Record.{Record}
 use Rattle.labels.specs.declared.fault.Reader.{Reader}
 use Rattle.labels.specs.declared.fault.Reader.TheVariants.{Record as InRecord, Script as InScript}
 use Rattle.labels.specs.Bytes.{Bytes}
 use Rattle.labels.specs.Coding.{Coding, Own, room, read_as, read_at}
-use Rattle.labels.specs.Faults.{require}
 use Rattle.labels.proofs.Laying.{bytes_take, bytes_drop}
 use Rattle.script.specs.Entries.{Entry, slip, slip_bytes, later, maps, fixed, fixed_bytes, entry, entry_bytes, entries}
-use Rattle.script.specs.Readers.{Read, then}
+use Rattle.script.specs.Readers.{Read}
 use Rattle.script.specs.Fields.{first, byte, first_two, pair, pair_bytes, many, joined}
 use Rattle.script.specs.Header.{boards_ok, faults_ok, faults_default, bad_ok, phases_ok, bit, field, fields, header, header_bytes, header_map, listed, stands, bad_map}
 use Rattle.script.specs.Script.{Script, encode, decode, most}

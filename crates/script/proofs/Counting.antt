@@ -1,8 +1,8 @@
 -- The first pass over the records as a loop.
-use Rattle.std.proofs.Common.{◌≡◌, ℕ, zero, suc, ◌+◌, ◌-◌, ◌<◌, ◌≤◌, List, [], ◌∷◌, ◌++◌, length, Ok, Err, Result, sym, refl, ap, ◌∙◌, subst, add-zero, arith, lt-ltb}
+use Rattle.std.proofs.Common.{◌≡◌, ℕ, suc, ◌+◌, ◌-◌, ◌<◌, ◌≤◌, List, ◌∷◌, ◌++◌, length, Ok, Err, Result, sym, refl, ap, ◌∙◌, add-zero, arith, lt-ltb}
 use lib.Count.{ones}
 use Rattle.std.proofs.lemmas.List.{length-append}
-use Rattle.labels.specs.Faults.{Numbered, require}
+use Rattle.labels.specs.Faults.{Numbered}
 use Rattle.script.specs.declared.model.Record.{Record}
 use Rattle.labels.specs.Coding.{Coding, Own}
 use Rattle.script.specs.Entries.{Entry, entry, entries}

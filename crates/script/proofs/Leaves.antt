@@ -1,10 +1,7 @@
 -- What the field readers answer, by lengths and places.
-use Rattle.std.proofs.Common.{◌≡◌, ℕ, suc, ◌+◌, ◌-◌, ◌*◌, ◌<◌, ◌≤◌, true, false, leb, List, [], ◌∷◌, length, get_or, take, drop, Ok, Err, Option, sym, refl, ap, ◌∙◌, arith, le-leb}
-use borrow.Author.Tests.{lt-leb}
+use Rattle.std.proofs.Common.{◌≡◌, ℕ, ◌+◌, ◌*◌, ◌<◌, ◌≤◌, List, [], ◌∷◌, length, get_or, drop, Ok, Err, sym, refl, ap, ◌∙◌, arith}
 use Rattle.std.proofs.lemmas.List.{drop_more, drop_all, length-drop}
 use Rattle.labels.specs.declared.fault.Reader.{Reader}
-use Rattle.labels.specs.declared.fault.Reader.TheVariants.{Label}
-use Rattle.script.specs.Readers.{Read}
 use Rattle.script.specs.Fields.{first, byte, first_two, pair}
 
 pub byte_none : (d : Reader) (b : List ℕ) (p : ℕ) → length b ≤ p → Err (13, p, d) ≡ byte d b p

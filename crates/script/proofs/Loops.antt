@@ -1,7 +1,7 @@
 -- Readers of rows as loops: one value more, a fault, and the end.
-use Rattle.std.proofs.Common.{◌≡◌, ℕ, zero, suc, ◌+◌, ◌-◌, ◌<◌, ◌≤◌, List, [], ◌∷◌, ◌++◌, length, take, drop, set, Ok, Err, Result, sym, refl, ap, ◌∙◌, subst, append_assoc, append-nil, arith, take-append-drop}
-use Rattle.std.proofs.lemmas.List.{take_more_set, take-set-le, drop-set-lt, drop-set-add, drop-drop, length-drop, length-set}
-use Rattle.labels.specs.Faults.{Numbered, require}
+use Rattle.std.proofs.Common.{◌≡◌, ℕ, suc, ◌+◌, ◌-◌, ◌<◌, List, [], ◌∷◌, ◌++◌, length, take, drop, set, Ok, Err, Result, sym, refl, ap, ◌∙◌, subst, append_assoc, append-nil, arith, take-append-drop}
+use Rattle.std.proofs.lemmas.List.{take_more_set, take-set-le, drop-set-lt, drop-set-add, drop-drop, length-drop}
+use Rattle.labels.specs.Faults.{Numbered}
 use Rattle.script.specs.Readers.{Read, then}
 use Rattle.script.specs.Fields.{many}
 use Rattle.script.specs.Passes.{placed, Filled}

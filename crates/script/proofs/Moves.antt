@@ -1,15 +1,14 @@
 -- How far a reader goes: past its field, and not past the end.
-use Rattle.std.proofs.Common.{◌≡◌, ℕ, zero, suc, ◌+◌, ◌-◌, ◌*◌, ◌^◌, ◌<◌, ◌≤◌, Bool, true, false, not, ◌&&◌, eqb, ltb, leb, List, [], ◌∷◌, ◌++◌, length, take, drop, Ok, Err, sym, refl, ap, ◌∙◌, subst, arith, le-ltb, le-leb, leb-true}
+use Rattle.std.proofs.Common.{◌≡◌, ℕ, zero, suc, ◌+◌, ◌*◌, ◌^◌, ◌≤◌, ltb, leb, List, [], ◌∷◌, length, drop, Ok, sym, refl, ap, ◌∙◌, subst, arith, le-ltb, le-leb, leb-true}
 use lib.Count.{ones}
 use Rattle.std.proofs.lemmas.List.{length-drop}
-use Rattle.script.specs.declared.model.Record.{Record}
 use Rattle.labels.specs.declared.fault.Reader.{Reader}
 use Rattle.labels.specs.declared.fault.Reader.TheVariants.{Record as InRecord}
 use Rattle.labels.specs.Coding.{Coding, Own, room, read_at}
 use Rattle.script.specs.Entries.{Entry, slip, later, maps, fixed, entry, entries}
 use Rattle.script.specs.Header.{header, bad_map}
 use Rattle.script.specs.Script.{Script, decode, most}
-use Rattle.script.specs.Readers.{Read, then}
+use Rattle.script.specs.Readers.{Read}
 use Rattle.script.specs.Fields.{first, byte, first_two, pair, many}
 use Rattle.script.proofs.Back.{read_as_back}
 use Rattle.script.proofs.Follow.{then_inv, bind_inv, cond_inv, ok_same, require_inv}

@@ -8,7 +8,7 @@ use Rattle.std.proofs.lemmas.Bool.Decides.{Decides-below_and}
 use Rattle.std.specs.List.{slice_get}
 use Rattle.exchanges.specs.Boards.{bit, count}
 use Rattle.exchanges.specs.CutLines.{each_below}
-use Rattle.exchanges.specs.Plane.{Plane, Call, round_after}
+use Rattle.exchanges.specs.Plane.{Plane, round_after}
 use Rattle.exchanges.specs.Cuts.{each_at, free}
 use Rattle.script.specs.declared.model.Record.{Record}
 use Rattle.script.specs.declared.rules.Rule.{Rule}

@@ -1,10 +1,10 @@
 -- What write answers, once the bytes are formed.
-use Rattle.std.proofs.Common.{◌≡◌, ℕ, ◌+◌, ◌-◌, ◌<◌, ◌≤◌, Bool, true, false, leb, List, [], ◌++◌, length, take, drop, Ok, Err, Result, sym, refl, ap, ◌∙◌, subst, arith}
+use Rattle.std.proofs.Common.{◌≡◌, ℕ, ◌<◌, ◌≤◌, List, [], length, take, Ok, Err, Result, sym, refl, ap, ◌∙◌, arith}
 use Rattle.std.proofs.lemmas.List.{length-take}
-use Rattle.std.proofs.lemmas.Bool.{le-leb, lt-leb}
+use Rattle.std.proofs.lemmas.Bool.{lt-leb}
 use Rattle.labels.specs.Coding.{Coding, Own}
-use Rattle.labels.specs.Faults.{Numbered, require}
-use Rattle.labels.specs.declared.fault.Reader.TheVariants.{Record as InRecord, Script as InScript}
+use Rattle.labels.specs.Faults.{Numbered}
+use Rattle.labels.specs.declared.fault.Reader.TheVariants.{Script as InScript}
 use Rattle.script.specs.declared.model.Header.{Header}
 use Rattle.script.specs.declared.survey.Survey.{Survey}
 use Rattle.script.specs.Memory.{Lists, formed, last_checks, writes}

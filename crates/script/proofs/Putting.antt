@@ -1,5 +1,5 @@
 -- Bytes that are put into a buffer, one after another.
-use Rattle.std.proofs.Common.{◌≡◌, ℕ, suc, ◌+◌, ◌-◌, ◌<◌, ◌≤◌, min, cond, leb, ◌⊎◌, List, [], ◌∷◌, ◌++◌, length, get_or, take, drop, Ok, Err, Result, sym, refl, ap, ◌∙◌, subst, inl, inr, append_assoc, append-nil, arith}
+use Rattle.std.proofs.Common.{◌≡◌, ℕ, ◌+◌, ◌-◌, ◌<◌, ◌≤◌, min, cond, leb, ◌⊎◌, List, [], ◌∷◌, ◌++◌, length, get_or, take, drop, Ok, Err, Result, sym, refl, ap, ◌∙◌, subst, inl, inr, append_assoc, append-nil, arith}
 use lib.Count.{ones}
 use Rattle.std.proofs.lemmas.List.{length-append, length-take-le, take_at, take_all, take-take, take_more, take-append-drop, drop_all, drop_more, drop-drop, length-drop, get_or_default, get_or-take}
 use Rattle.std.proofs.lemmas.Bool.{cases_lt, leb-true, le-leb, lt-leb, cond-true}
@@ -13,10 +13,8 @@ use Rattle.script.specs.declared.model.Header.{Header}
 use Rattle.script.specs.Header.{header_bytes}
 use Rattle.script.specs.Memory.{Lists, with_slips, held, formed}
 use Rattle.script.proofs.Follow.{require_inv}
-use Rattle.labels.specs.declared.fault.Reader.TheVariants.{Script as InScript}
 use Rattle.script.specs.Fields.{joined}
 use Rattle.script.specs.Passes.{Puts}
-use Rattle.script.specs.Script.{most}
 
 pub puts_none : (old : List ℕ) (at : ℕ) → Puts [] old at (Ok at) old
 puts_none old at = (omega arith, sym (append-nil (take at old)))

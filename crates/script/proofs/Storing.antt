@@ -1,8 +1,8 @@
 -- The second pass over the records as a loop.
-use Rattle.std.proofs.Common.{◌≡◌, ℕ, zero, suc, ◌+◌, ◌-◌, ◌<◌, ◌≤◌, List, [], ◌∷◌, ◌++◌, length, get_or, take, drop, set, Ok, Err, Result, sym, refl, ap, ◌∙◌, subst, append_assoc, append-nil, arith, take-append-drop, lt-ltb}
+use Rattle.std.proofs.Common.{◌≡◌, ℕ, suc, ◌+◌, ◌-◌, ◌<◌, ◌≤◌, List, [], ◌∷◌, ◌++◌, length, get_or, take, drop, set, Ok, Err, sym, refl, ap, ◌∙◌, subst, append_assoc, append-nil, arith, lt-ltb}
 use lib.Count.{ones}
-use Rattle.std.proofs.lemmas.List.{length-append, length-drop, drop-drop, take_at, drop_at, set_at, drop_more}
-use Rattle.labels.specs.Faults.{Numbered, require}
+use Rattle.std.proofs.lemmas.List.{length-append, drop-drop, take_at, drop_at, set_at, drop_more}
+use Rattle.labels.specs.Faults.{Numbered}
 use Rattle.script.specs.declared.model.Record.{Record}
 use Rattle.labels.specs.declared.slip.Slip.{Slip}
 use Rattle.labels.specs.Coding.{Coding, Own}
@@ -12,7 +12,7 @@ use Rattle.script.specs.Fields.{many}
 use Rattle.script.specs.Memory.{all_slips, notes, laid}
 use Rattle.script.specs.Passes.{Filled, Room, Stored}
 use Rattle.script.proofs.Loops.{onto, none_onto, one_onto}
-use Rattle.script.proofs.Follow.{then_inv, ok_same}
+use Rattle.script.proofs.Follow.{ok_same}
 use Rattle.script.proofs.Moves.{entry_moves, ended}
 
 pub length_notes : {L : Type 0} (es : List (Entry L)) → length (notes es) ≡ length es

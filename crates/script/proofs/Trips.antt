@@ -1,20 +1,18 @@
 -- The two round trips, over scripts as they lie in memory.
-use Rattle.std.proofs.Common.{◌≡◌, ℕ, zero, suc, ◌+◌, ◌<◌, ◌≤◌, Bool, true, false, cond, ltb, leb, List, [], ◌∷◌, ◌++◌, length, take, drop, Ok, Err, Result, sym, refl, ap, ◌∙◌, subst, append_assoc, arith}
+use Rattle.std.proofs.Common.{◌≡◌, ℕ, ◌≤◌, true, cond, leb, List, [], ◌∷◌, ◌++◌, length, take, drop, Ok, sym, refl, ap, ◌∙◌, append_assoc, arith}
 use lib.Count.{ones}
 use Rattle.std.proofs.lemmas.List.{length-append, length-take-le, take_at, drop_at}
-use Rattle.std.proofs.lemmas.Bool.{le-leb, lt-leb, leb-true, ltb-false}
-use Rattle.labels.specs.Bytes.{Bytes}
+use Rattle.std.proofs.lemmas.Bool.{le-leb, lt-leb, leb-true}
 use Rattle.labels.specs.Coding.{Coding, Own, read_at}
-use Rattle.labels.specs.Faults.{Numbered, require}
+use Rattle.labels.specs.Faults.{require}
 use Rattle.labels.specs.declared.fault.Reader.TheVariants.{Record as InRecord, Script as InScript}
 use Rattle.labels.specs.declared.slip.Slip.{Slip}
 use Rattle.script.specs.declared.model.Header.{Header}
-use Rattle.script.specs.declared.model.Record.{Record}
-use Rattle.script.specs.Entries.{Entry, entry, entries, entry_bytes}
+use Rattle.script.specs.Entries.{Entry, entries, entry_bytes}
 use Rattle.script.specs.Fields.{many, joined}
-use Rattle.script.specs.Header.{header, header_bytes, bad_map}
-use Rattle.script.specs.Memory.{Lists, lists, with_slips, held, notes, all_slips, laid, room, reads, filled, formed, last_checks, writes, written, ReadsBack, WritesBack}
-use Rattle.script.specs.Readers.{Read, then, bind}
+use Rattle.script.specs.Header.{header, bad_map}
+use Rattle.script.specs.Memory.{Lists, lists, with_slips, held, notes, all_slips, laid, room, reads, filled, formed, last_checks, written, ReadsBack, WritesBack}
+use Rattle.script.specs.Readers.{bind}
 use Rattle.script.specs.Script.{Script, encode, decode, most}
 use Rattle.script.proofs.Back.{encodes_back}
 use Rattle.script.proofs.Follow.{then_inv, bind_inv, require_inv, past}

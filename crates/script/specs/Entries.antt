@@ -1,5 +1,5 @@
 -- The records, each with its forged slips.
-use Rattle.std.specs.Prelude.{ℕ, zero, suc, ◌^◌, Bool, cond, not, ◌&&◌, ◌||◌, List, [], ◌∷◌, ◌++◌, length, Ok, Err, Result, ◌==◌, bit_and, count_ones, nat_le, nat_lt}
+use Rattle.std.specs.Prelude.{ℕ, zero, suc, ◌^◌, Bool, cond, not, ◌&&◌, ◌||◌, List, [], ◌∷◌, ◌++◌, length, Ok, Result, ◌==◌, bit_and, count_ones, nat_le, nat_lt}
 use Rattle.labels.specs.Coding.{Coding, read_at}
 use Rattle.labels.specs.Faults.{Numbered, require}
 use Rattle.labels.specs.declared.fault.Reader.TheVariants.{Record as InRecord}

@@ -1,5 +1,5 @@
 -- A script as a value, its bytes, and what bytes read as.
-use Rattle.std.specs.Prelude.{ℕ, List, ◌++◌, length, Ok, Err, Result, nat_le}
+use Rattle.std.specs.Prelude.{ℕ, List, ◌++◌, length, Ok, Result, nat_le}
 use Rattle.labels.specs.Coding.{Coding, read_at}
 use Rattle.labels.specs.Faults.{Numbered, require}
 use Rattle.labels.specs.declared.fault.Reader.TheVariants.{Script as InScript}

@@ -1,10 +1,10 @@
 -- What a backplane that obeys records keeps. Assumes nothing.
-use Rattle.std.specs.Prelude.{◌≡◌, ℕ, ◌+◌, ◌%◌, ◌^◌, ◌<◌, ◌≤◌, Bool, true, false, cond, not, ◌&&◌, ◌||◌, ◌⊎◌, List, [], ◌∷◌, ◌++◌, Some, None, Option, count_ones, nat_lt, refl}
+use Rattle.std.specs.Prelude.{◌≡◌, ℕ, ◌+◌, ◌%◌, ◌^◌, ◌≤◌, Bool, false, cond, ◌&&◌, ◌⊎◌, List, [], ◌∷◌, ◌++◌, Some, None, Option, count_ones, nat_lt, refl}
 use Rattle.std.proofs.Common.{ap, ◌∙◌, inl, inr}
 use Rattle.std.proofs.lemmas.Bool.{cond-true, cond-false, lt-ltb, le-ltb, and_from, and_left, and_right}
 use Rattle.std.specs.List.{slice_get}
 use Rattle.exchanges.specs.Boards.{bit}
-use Rattle.exchanges.specs.Plane.{Plane, Call, turn, carry, Keeps, round_after, next_round, last_round}
+use Rattle.exchanges.specs.Plane.{Call, turn, carry, Keeps, round_after, next_round, last_round}
 use Rattle.exchanges.specs.Cuts.{choose, each_at, free}
 use Rattle.script.specs.declared.model.Record.{Record}
 use Rattle.script.specs.declared.rules.Rule.{Rule}

@@ -40,7 +40,7 @@ pub(crate) fn read_pair(reader: Reader, b: &[u8], p: usize) -> Result<(u16, usiz
 }
 
 pub(crate) fn read_slip<L: Label>(b: &[u8], p: usize) -> Result<(Slip<L>, usize), Fault>
-    ensures { answered result ≡ slip L.Label.coding b.now p }
+    ensures { answered result ≡ slip L.coding b.now p }
 {
     let (phase, q) = read_byte(Reader::Record, b, p)?;
     let (label, r) = read_label(b, q)?;
@@ -58,7 +58,7 @@ pub(crate) fn put_bytes(bytes: &[u8], out: &mut [u8], at: usize) -> Result<usize
 }
 
 pub(crate) fn put_label<L: Label>(label: L, out: &mut [u8], at: usize) -> Result<usize, Fault>
-    ensures { Puts (L.Label.coding.write label) out.old at (answered result) out.new }
+    ensures { Puts (L.coding.write label) out.old at (answered result) out.new }
 {
     match write_label(label, out, at) {
         Ok(end) => Ok(end),
@@ -67,7 +67,7 @@ pub(crate) fn put_label<L: Label>(label: L, out: &mut [u8], at: usize) -> Result
 }
 
 pub(crate) fn put_slip<L: Label>(slip: Slip<L>, out: &mut [u8], at: usize) -> Result<usize, Fault>
-    ensures { Puts (slip_bytes L.Label.coding slip) out.old at (answered result) out.new }
+    ensures { Puts (slip_bytes L.coding slip) out.old at (answered result) out.new }
 {
     let next = put_bytes(&[slip.phase], out, at)?;
     put_label(slip.label, out, next)

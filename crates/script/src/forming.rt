@@ -59,7 +59,7 @@ fn put_records<L: Label>(
     at: usize,
 ) -> Result<usize, Fault>
     requires { n ≤ length records.now }
-    ensures { Puts (joined (entry_bytes L.Label.coding) (with_slips (take n records.now) slips.now)) out.old at (answered result) out.new }
+    ensures { Puts (joined (entry_bytes L.coding) (with_slips (take n records.now) slips.now)) out.old at (answered result) out.new }
 {
     let mut p = at;
     let mut used = 0usize;
@@ -87,7 +87,7 @@ pub(crate) fn form<L: Label>(
     slips: &[Slip<L>],
     out: &mut [u8],
 ) -> Result<usize, Fault>
-    ensures { Puts (formed L.Label.coding head count (lists proposals.now records.now slips.now)) out.old 0 (answered result) out.new }
+    ensures { Puts (formed L.coding head count (lists proposals.now records.now slips.now)) out.old 0 (answered result) out.new }
 {
     let start = put_header(L::kind_number(), head, out)?;
     let n = head.boards as usize;

@@ -1,4 +1,6 @@
 // Scripts: what the boards propose and what goes wrong between them, as bytes and in memory.
+#![tactic(auto)]
+
 mod fields;
 mod forming;
 mod heads;

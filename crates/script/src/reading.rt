@@ -30,7 +30,7 @@ pub(crate) fn bad_boards(head: Header) -> u8
 
 // The first pass: every fault but that of memory.
 pub(crate) fn survey<L: Label>(input: &[u8]) -> Result<Survey, Fault>
-    ensures { answered result ≡ surveyed L.Label.coding input.now }
+    ensures { answered result ≡ surveyed L.coding input.now }
 {
     if input.len() > 60_000 {
         return Err(in_script(Refusal::ScriptTooLong, 60_000));
@@ -56,9 +56,9 @@ pub fn read<L: Label>(
     records: &mut [Record],
     slips: &mut [Slip<L>],
 ) -> Result<(Header, usize), Fault>
-    ensures value { answered result ≡ reads L.Label.coding input.now (lists proposals.old records.old slips.old) }
-    ensures after { lists proposals.new records.new slips.new ≡ filled (decode L.Label.coding input.now) (lists proposals.old records.old slips.old) }
-    ensures trip { WritesBack L.Label.coding }
+    ensures value { answered result ≡ reads L.coding input.now (lists proposals.old records.old slips.old) }
+    ensures after { lists proposals.new records.new slips.new ≡ filled (decode L.coding input.now) (lists proposals.old records.old slips.old) }
+    ensures trip { WritesBack L.coding }
 {
     let found = survey::<L>(input)?;
     let n = found.head.boards as usize;

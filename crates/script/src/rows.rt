@@ -33,9 +33,9 @@ pub(crate) struct Labels;
 pub(crate) struct Slips;
 
 impl<L: Label> Row<L> for Labels {
-    ghost reader = { read_at L.Label.coding };
+    ghost reader = { read_at L.coding };
 
-    ghost bytes = { L.Label.coding.write };
+    ghost bytes = { L.coding.write };
 
     fn read_one(b: &[u8], p: usize) -> Result<(L, usize), Fault> {
         read_label(b, p)
@@ -47,9 +47,9 @@ impl<L: Label> Row<L> for Labels {
 }
 
 impl<L: Label> Row<Slip<L>> for Slips {
-    ghost reader = { slip L.Label.coding };
+    ghost reader = { slip L.coding };
 
-    ghost bytes = { slip_bytes L.Label.coding };
+    ghost bytes = { slip_bytes L.coding };
 
     fn read_one(b: &[u8], p: usize) -> Result<(Slip<L>, usize), Fault> {
         read_slip(b, p)
@@ -62,7 +62,7 @@ impl<L: Label> Row<Slip<L>> for Slips {
 
 // The place after so many values.
 pub(crate) fn skip_row<X: Copy, R: Row<X>>(n: usize, b: &[u8], start: usize) -> Result<usize, Fault>
-    ensures { answered result ≡ placed (many n R.Row.reader b.now start) }
+    ensures { answered result ≡ placed (many n R.reader b.now start) }
 {
     let mut p = start;
     for _i in 0..n {
@@ -81,7 +81,7 @@ pub(crate) fn fill_row<X: Copy, R: Row<X>>(
     list: &mut [X],
 ) -> Result<usize, Fault>
     requires { from + n ≤ length list.old }
-    ensures { Filled (many n R.Row.reader b.now start) from n (answered result) list.old list.new }
+    ensures { Filled (many n R.reader b.now start) from n (answered result) list.old list.new }
 {
     let mut p = start;
     for i in 0..n {
@@ -101,7 +101,7 @@ pub(crate) fn put_row<X: Copy, R: Row<X>>(
     at: usize,
 ) -> Result<usize, Fault>
     requires { from + n ≤ length list.now }
-    ensures { Puts (joined R.Row.bytes (take n (drop from list.now))) out.old at (answered result) out.new }
+    ensures { Puts (joined R.bytes (take n (drop from list.now))) out.old at (answered result) out.new }
 {
     let mut p = at;
     for i in 0..n {

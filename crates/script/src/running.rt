@@ -40,7 +40,7 @@ fn phases_to_run(head: Header) -> u8
 // The first so many boards propose.
 fn propose_all<L: Ordered>(panel: &mut Panel<L>, proposals: &[L], n: usize) -> Result<(), Refusal>
     requires { n ≤ length proposals.now }
-    ensures { Went order (state panel.old) (proposing 0 (take n proposals.now)) (state panel.new) result }
+    ensures { Went L.order (state panel.old) (proposing 0 (take n proposals.now)) (state panel.new) result }
 {
     for q in 0..n {
         panel.propose(q, proposals[q])?;
@@ -57,7 +57,7 @@ fn run_phases<L: Ordered, E: Exchange<Slip<L>>>(
     picks: &mut [Option<Slip<L>>],
     work: &mut [Option<Slip<L>>],
 ) -> Result<(), Refusal>
-    ensures { Went order (state panel.old) (phases order (sizes (length heard.old) (length picks.old) (length work.old)) (state panel.old) (meaning exchange.old) count).calls (state panel.new) result }
+    ensures { Went L.order (state panel.old) (phases L.order (sizes (length heard.old) (length picks.old) (length work.old)) (state panel.old) (E.meaning exchange.old) count).calls (state panel.new) result }
 {
     for _i in 0..count {
         panel.phase(exchange, heard, picks, work)?;
@@ -92,7 +92,7 @@ fn open_panel<L: Ordered>(
     head: Header,
     proposals: &[L],
 ) -> Result<(), Refusal>
-    ensures { Went order (state panel.old) (opening head proposals.now) (state panel.new) result }
+    ensures { Went L.order (state panel.old) (opening head proposals.now) (state panel.new) result }
 {
     panel.fit(head.boards, faults_borne(head))?;
     let there = (head.boards as usize).min(proposals.len());
@@ -115,7 +115,7 @@ pub fn run<L: Ordered>(
     work: &mut [Option<Slip<L>>],
     told: &mut [Option<L>],
 ) -> Result<u8, Refusal>
-    ensures { Ran order slots.old (history order slots.old (sizes (length heard.old) (length picks.old) (length work.old)) head count (lists proposals.now records.items slips.items)) head.boards (phases_due head) told.old told.new result }
+    ensures { Ran L.order slots.old (history L.order slots.old (sizes (length heard.old) (length picks.old) (length work.old)) head count (lists proposals.now records.items slips.items)) head.boards (phases_due head) told.old told.new result }
 {
     let n = head.boards as usize;
     if told.len() < n {

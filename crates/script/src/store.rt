@@ -21,8 +21,8 @@ pub(crate) fn fill_entries<L: Label>(
     records: &mut [Record],
     slips: &mut [Slip<L>],
 ) -> Result<(), Fault>
-    requires { (n ≤ 7) × (Room (entries L.Label.coding n bad (length b.now) 0 0 b.now start) (length records.old) (length slips.old)) }
-    ensures { Stored (entries L.Label.coding n bad (length b.now) 0 0 b.now start) (answered result) records.old records.new slips.old slips.new }
+    requires { (n ≤ 7) × (Room (entries L.coding n bad (length b.now) 0 0 b.now start) (length records.old) (length slips.old)) }
+    ensures { Stored (entries L.coding n bad (length b.now) 0 0 b.now start) (answered result) records.old records.new slips.old slips.new }
 {
     let mut p = start;
     let mut count = 0usize;

@@ -29,7 +29,7 @@ pub(crate) fn skip_entry<L: Label>(
     p: usize,
 ) -> Result<(Record, usize), Fault>
     requires { n ≤ 7 }
-    ensures { answered result ≡ noted (entry L.Label.coding n bad round sender b.now p) }
+    ensures { answered result ≡ noted (entry L.coding n bad round sender b.now p) }
 {
     let (record, q) = read_fixed(n, bad, round, sender, b, p)?;
     let count = map_count(record.forged);
@@ -45,7 +45,7 @@ pub(crate) fn count_entries<L: Label>(
     start: usize,
 ) -> Result<(usize, usize), Fault>
     requires { n ≤ 7 }
-    ensures { answered result ≡ counted (entries L.Label.coding n bad (length b.now) 0 0 b.now start) }
+    ensures { answered result ≡ counted (entries L.coding n bad (length b.now) 0 0 b.now start) }
 {
     let mut p = start;
     let mut count = 0usize;

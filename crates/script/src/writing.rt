@@ -36,9 +36,9 @@ pub fn write<L: Label>(
     slips: &[Slip<L>],
     output: &mut [u8],
 ) -> Result<usize, Fault>
-    ensures value { answered result ≡ writes L.Label.coding head count (lists proposals.now records.now slips.now) (length output.old) }
-    ensures after { output.new ≡ written (answered result) (formed L.Label.coding head count (lists proposals.now records.now slips.now)) output.old }
-    ensures trip { ReadsBack L.Label.coding }
+    ensures value { answered result ≡ writes L.coding head count (lists proposals.now records.now slips.now) (length output.old) }
+    ensures after { output.new ≡ written (answered result) (formed L.coding head count (lists proposals.now records.now slips.now)) output.old }
+    ensures trip { ReadsBack L.coding }
 {
     let mut buffer = [0u8; 60_000];
     let size = form(head, proposals, records, count, slips, &mut buffer)?;

@@ -4,11 +4,11 @@ use Rattle.exchanges.proofs.Trail.{length_trail}
 use Rattle.exchanges.proofs.Slots.{slot_in, held_at}
 use Rattle.exchanges.proofs.rounds.read.Goals as goal
 
-pub overflow-add-result : goal.overflow-add-result
-overflow-add-result g c = omega (arith, slot_in c.args.shape.n c.args.shape.t c.args.shape.size _ _ c.args.q c.place.result c.args.path.boards c.args.path.len c.requires.room c.requires.board c.requires.path (omega arith) c.requires.short c.place.ensures)
+pub overflow_add-result : goal.overflow_add-result
+overflow_add-result g c = omega (arith, slot_in c.args.shape.n c.args.shape.t c.args.shape.size _ _ c.args.q c.place.result c.args.path.boards c.args.path.len c.requires.room c.requires.board c.requires.path (omega arith) c.requires.short c.place.ensures)
 
-pub offset-bounds-ws-q : goal.offset-bounds-ws-q
-offset-bounds-ws-q g c = omega (arith, slot_in c.args.shape.n c.args.shape.t c.args.shape.size _ _ c.args.q c.place.result c.args.path.boards c.args.path.len c.requires.room c.requires.board c.requires.path (omega arith) c.requires.short c.place.ensures)
+pub offset_bounds-ws-q : goal.offset_bounds-ws-q
+offset_bounds-ws-q g c = omega (arith, slot_in c.args.shape.n c.args.shape.t c.args.shape.size _ _ c.args.q c.place.result c.args.path.boards c.args.path.len c.requires.room c.requires.board c.requires.path (omega arith) c.requires.short c.place.ensures)
 
 pub bounds-ws-q : goal.bounds-ws-q
 bounds-ws-q g c = (slot_in c.args.shape.n c.args.shape.t c.args.shape.size _ _ c.args.q c.place.result c.args.path.boards c.args.path.len c.requires.room c.requires.board c.requires.path (omega arith) c.requires.short c.place.ensures).0

@@ -2,7 +2,6 @@ use Rattle.std.proofs.Common.{not, sym, ap}
 use Rattle.exchanges.specs.Trees.{on}
 use Rattle.exchanges.specs.Slots.{trail, Work, carried, hops_from}
 use Rattle.exchanges.proofs.Orders.{again_taken, again_passed, moved}
-use Rattle.exchanges.proofs.rounds.relay.Given as given
 use Rattle.exchanges.proofs.rounds.relay.Goals as goal
 use Rattle.exchanges.proofs.rounds.relay.Goals.{then-not-has, else-not-has}
 

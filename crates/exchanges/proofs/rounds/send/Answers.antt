@@ -14,14 +14,14 @@ module _ (g : given.Over) (c : goal.After-carry g) where
   written : (c.loop-p.p * c.args.shape.size + c.place-place.result < length c.loop-p.ws) × (c.loop-p.p * c.args.shape.size + c.place-place.result < 1813)
   written = slot_in c.args.shape.n c.args.shape.t c.args.shape.size (length c.args.own.now) (length c.loop-p.ws) c.loop-p.p c.place-place.result c.add.result.boards c.add.result.len (record { few = c.requires.room.few; low = c.requires.room.low; sized = c.requires.room.sized; sends = c.requires.room.sends; holds = omega arith }) c.loop-p-test.true (subst (λ (α : List ℕ). IsPath c.args.shape.n α) (sym c.add.ensures.added) c.requires.path) (omega (arith, c.add.ensures.longer)) (omega (arith, c.add.ensures.longer, c.requires.short)) c.place-place.ensures
 
-pub overflow-mul-p : goal.overflow-mul-p
-overflow-mul-p g c = omega (arith, written g c)
+pub overflow_mul-p : goal.overflow_mul-p
+overflow_mul-p g c = omega (arith, written g c)
 
-pub overflow-add-p : goal.overflow-add-p
-overflow-add-p g c = omega (arith, written g c)
+pub overflow_add-p : goal.overflow_add-p
+overflow_add-p g c = omega (arith, written g c)
 
-pub offset-bounds-ws-p : goal.offset-bounds-ws-p
-offset-bounds-ws-p g c = let h : c.loop-p.p * c.args.shape.size + c.place-place.result < length c.args.ws.now = omega (arith, (written g c).0) in search rules
+pub offset_bounds-ws-p : goal.offset_bounds-ws-p
+offset_bounds-ws-p g c = let h : c.loop-p.p * c.args.shape.size + c.place-place.result < length c.args.ws.now = omega (arith, (written g c).0) in search rules
 
 pub bounds-ws-p : goal.bounds-ws-p
 bounds-ws-p g c = (written g c).0

@@ -9,7 +9,7 @@ use Rattle.exchanges.proofs.tree.firm_over.Goals as goal
 pub returns : goal.returns
 returns g c =
     let plane = g.B.Backplane.plane in
-    let same = g.row.I-Item.same in
+    let same = g.I.Item.same in
     let b = plane c.args.b.now in
     let f = c.args.faults in
     let s = c.args.sent.now in
@@ -18,10 +18,10 @@ returns g c =
     let n = c.from-n.result in
     let t = c.from-t.result in
     let sh : ℕ → Bool = λ m. short m s h || ltb (length w) (cond (fits m f) (m * tree_size m f) 0) in
-    let none = none_due c.boards-n.result b.boards f c.round.result b.round (c.from.result + 1) sh c.lacks-room-short.result c.boards-n.ensures c.lacks-room-short.ensures c.round.ensures c.in-default.ensures in
+    let none = none_due c.boards-n.result b.boards f c.round.result b.round (c.from.result + 1) sh c.lacks_room-short.result c.boards-n.ensures c.lacks_room-short.ensures c.round.ensures c.in_default.ensures in
     let T = (filled n (t + 1) b (take n s)).trees in
-    let run : Done same b (plane c.run-trees.new.b) s h c.run-trees.new.heard w c.run-trees.new.ws n t = record { plane = c.run-trees.ensures.plane; heard = c.run-trees.ensures.heard; work = c.run-trees.ensures.work ∙ ap (λ (x : ℕ). workspace same n t T ++ drop (n * x) w) c.tree-size-size.ensures } in
-    let done = done_at same b (plane c.run-trees.new.b) s h c.run-trees.new.heard w c.run-trees.new.ws n b.boards t f (c.from-n.ensures ∙ c.boards-n.ensures) c.from-t.ensures run in
+    let run : Done same b (plane c.run_trees.new.b) s h c.run_trees.new.heard w c.run_trees.new.ws n t = record { plane = c.run_trees.ensures.plane; heard = c.run_trees.ensures.heard; work = c.run_trees.ensures.work ∙ ap (λ (x : ℕ). workspace same n t T ++ drop (n * x) w) c.tree_size-size.ensures } in
+    let done = done_at same b (plane c.run_trees.new.b) s h c.run_trees.new.heard w c.run_trees.new.ws n b.boards t f (c.from-n.ensures ∙ c.boards-n.ensures) c.from-t.ensures run in
     record {
       ran = (subst (λ (k : ℕ). due b.boards f (sh b.boards) b.round (k + 1) ≡ None) c.from.ensures none, done.plane, done.heard);
       left = done.work;

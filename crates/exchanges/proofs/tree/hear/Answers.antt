@@ -3,14 +3,14 @@ use Rattle.std.proofs.lemmas.List.{get_or_read}
 use Rattle.exchanges.proofs.Heard.{cell_in, heard_more}
 use Rattle.exchanges.proofs.tree.hear.Goals as goal
 
-pub overflow-mul-heard : goal.overflow-mul-heard
-overflow-mul-heard g c = omega (arith, (cell_in c.args.shape.n c.args.shape.t c.args.shape.size _ _ c.loop-k.k c.requires.room c.loop-k-test.true).1)
+pub overflow_mul-heard : goal.overflow_mul-heard
+overflow_mul-heard g c = omega (arith, (cell_in c.args.shape.n c.args.shape.t c.args.shape.size _ _ c.loop-k.k c.requires.room c.loop-k-test.true).1)
 
-pub overflow-add-heard : goal.overflow-add-heard
-overflow-add-heard g c = omega (arith, (cell_in c.args.shape.n c.args.shape.t c.args.shape.size _ _ c.loop-k.k c.requires.room c.loop-k-test.true).1)
+pub overflow_add-heard : goal.overflow_add-heard
+overflow_add-heard g c = omega (arith, (cell_in c.args.shape.n c.args.shape.t c.args.shape.size _ _ c.loop-k.k c.requires.room c.loop-k-test.true).1)
 
-pub offset-bounds-ws-k : goal.offset-bounds-ws-k
-offset-bounds-ws-k g c = omega (arith, (cell_in c.args.shape.n c.args.shape.t c.args.shape.size _ _ c.loop-k.k c.requires.room c.loop-k-test.true).0)
+pub offset_bounds-ws-k : goal.offset_bounds-ws-k
+offset_bounds-ws-k g c = omega (arith, (cell_in c.args.shape.n c.args.shape.t c.args.shape.size _ _ c.loop-k.k c.requires.room c.loop-k-test.true).0)
 
 pub bounds-ws-k : goal.bounds-ws-k
 bounds-ws-k g c = (cell_in c.args.shape.n c.args.shape.t c.args.shape.size _ _ c.loop-k.k c.requires.room c.loop-k-test.true).0

@@ -3,4 +3,4 @@ use Rattle.exchanges.proofs.Picking.{Counted}
 use Rattle.exchanges.proofs.votes.holding.Given as goal
 
 abbrev pub invariant-loop-slot : goal.invariant-loop-slot
-invariant-loop-slot g l = Counted (holds g.row.I-Item.same l.x) l.slots l.slot-index l.count
+invariant-loop-slot g l = Counted (holds g.I.Item.same l.x) l.slots l.slot-index l.count

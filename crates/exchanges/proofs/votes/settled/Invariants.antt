@@ -3,4 +3,4 @@ use Rattle.exchanges.specs.Trees.{picked}
 use Rattle.exchanges.proofs.votes.settled.Given as goal
 
 abbrev pub invariant-loop-slot : goal.invariant-loop-slot
-invariant-loop-slot g l = picked g.row.I-Item.same l.need l.slots (drop l.slot-index l.slots) ≡ picked g.row.I-Item.same l.need l.slots l.slots
+invariant-loop-slot g l = picked g.I.Item.same l.need l.slots (drop l.slot-index l.slots) ≡ picked g.I.Item.same l.need l.slots l.slots

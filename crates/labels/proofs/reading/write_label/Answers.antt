@@ -5,5 +5,5 @@ use Rattle.std.proofs.Common.{arith}
 pub returns : goal.returns
 returns g c =
     let own = g.met.L.Label.own in
-    let done = wrote g.L.Label.coding own c.args.label c.args.output.now c.to-bytes.new.out c.args.place c.byte-count-width.result c.to-bytes.result c.byte-count-width.ensures (omega arith) c.to-bytes.ensures in
+    let done = wrote g.L.Label.coding own c.args.label c.args.output.now c.to_bytes.new.out c.args.place c.byte_count-width.result c.to_bytes.result c.byte_count-width.ensures (omega arith) c.to_bytes.ensures in
     record { value = done.0; after = done.1 }

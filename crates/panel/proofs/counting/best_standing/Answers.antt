@@ -9,7 +9,7 @@ loop-q-preserved g c =
     let o = g.L.Ordered.order in
     let row = row_at c.args.blocks.now (c.args.p * c.args.n) in
     let test = stands o c.args.n c.args.t row (block_row c.args.n c.args.p c.args.blocks.now) in
-    best_more (later o) (λ q. only test (row q)) c.loop-q.q c.loop-q.top _ _ c.loop-q.invariant (c.if-standing-slot.ensures ∙ ap (only test) c.slot-at.ensures) c.later-of-top.ensures
+    best_more (later o) (λ q. only test (row q)) c.loop-q.q c.loop-q.top _ _ c.loop-q.invariant (c.if_standing-slot.ensures ∙ ap (only test) c.slot_at.ensures) c.later_of-top.ensures
 
 pub returns : goal.returns
 returns g c =

@@ -9,7 +9,7 @@ loop-q-preserved g c =
     let o = g.L.Ordered.order in
     let row = row_at c.args.heard.now c.args.start in
     let test = heard_enough o c.args.n c.args.many c.args.phase row in
-    best_more (later o) (λ q. only test (row q)) c.loop-q.q c.loop-q.top _ _ c.loop-q.invariant (c.if-enough-slot.ensures ∙ ap (only test) c.slot-at.ensures) c.later-of-top.ensures
+    best_more (later o) (λ q. only test (row q)) c.loop-q.q c.loop-q.top _ _ c.loop-q.invariant (c.if_enough-slot.ensures ∙ ap (only test) c.slot_at.ensures) c.later_of-top.ensures
 
 pub returns : goal.returns
 returns g c =

@@ -5,7 +5,7 @@ use Rattle.panel.proofs.Loops.{best_more}
 use Rattle.panel.proofs.counting.most_common.Goals as goal
 
 pub loop-q-preserved : goal.loop-q-preserved
-loop-q-preserved g c = best_more _ (row_at c.args.claims.now c.args.start) c.loop-q.q c.loop-q.top _ _ c.loop-q.invariant c.slot-at.ensures c.oftener-of-top.ensures
+loop-q-preserved g c = best_more _ (row_at c.args.claims.now c.args.start) c.loop-q.q c.loop-q.top _ _ c.loop-q.invariant c.slot_at.ensures c.oftener_of-top.ensures
 
 pub returns : goal.returns
 returns g c =

@@ -8,7 +8,7 @@ use Rattle.panel.proofs.memory.copy_column.Goals as goal
 pub loop-q-preserved : goal.loop-q-preserved
 loop-q-preserved g c =
     let within : c.loop-q.q < length c.loop-q.sent = omega arith in
-    λ i h. ap (λ l. get_or l i None) c.put-slot.ensures ∙ ap (λ x. get_or (set c.loop-q.sent c.loop-q.q x) i None) c.slot-at.ensures ∙ fill_by_more (λ q. at c.args.slots.now q c.args.place) c.loop-q.sent c.loop-q.q None within c.loop-q.invariant i h
+    λ i h. ap (λ l. get_or l i None) c.put_slot.ensures ∙ ap (λ x. get_or (set c.loop-q.sent c.loop-q.q x) i None) c.slot_at.ensures ∙ fill_by_more (λ q. at c.args.slots.now q c.args.place) c.loop-q.sent c.loop-q.q None within c.loop-q.invariant i h
 
 pub returns : goal.returns
 returns g c =

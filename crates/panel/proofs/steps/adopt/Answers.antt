@@ -14,7 +14,7 @@ loop-p-preserved g c =
     let new = λ (p : ℕ). or_else (taken p) (at before p 0) in
     let p = c.loop-p.p in
     let kept : at c.loop-p.slots p 0 ≡ at before p 0 = ap (λ u. at u p 0) c.loop-p.invariant ∙ put_above 0 (omega arith) new before p (10 * p + 0) (omega arith) in
-    put_more 0 new before p c.loop-p.slots _ _ c.loop-p.invariant (ap (or_else (taken p)) kept) c.adopt-one.ensures
+    put_more 0 new before p c.loop-p.slots _ _ c.loop-p.invariant (ap (or_else (taken p)) kept) c.adopt_one.ensures
 
 pub returns : goal.returns
 returns g c =

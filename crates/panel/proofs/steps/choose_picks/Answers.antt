@@ -9,7 +9,7 @@ use Rattle.panel.proofs.steps.choose_picks.Goals as goal
 pub loop-p-preserved : goal.loop-p-preserved
 loop-p-preserved g c =
     put_more c.args.phase (λ p. with_phase c.args.phase (choice_of g.L.Ordered.order c.args.n c.args.t (row_at c.args.blocks.now (p * c.args.n)) (block_row c.args.n p c.args.blocks.now)))
-    c.args.slots.now c.loop-p.p c.loop-p.slots _ _ c.loop-p.invariant refl c.choose-pick.ensures
+    c.args.slots.now c.loop-p.p c.loop-p.slots _ _ c.loop-p.invariant refl c.choose_pick.ensures
 
 pub returns : goal.returns
 returns g c =

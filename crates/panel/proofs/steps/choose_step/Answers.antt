@@ -2,8 +2,8 @@ use Rattle.std.proofs.Common.{◌*◌, ◌≤◌, length, mul-le-mul_right, arit
 use Rattle.panel.proofs.Running.{picks_chosen}
 use Rattle.panel.proofs.steps.choose_step.Goals as goal
 
-pub hear-all-requires : goal.hear-all-requires
-hear-all-requires g c =
+pub hear_all-requires : goal.hear_all-requires
+hear_all-requires g c =
     let n = c.args.n in
     let few : c.args.phase ≤ 8 = c.requires.last in
     let blocks : c.args.phase * (n * n) ≤ 8 * (n * n) = mul-le-mul_right (n * n) few in
@@ -13,8 +13,8 @@ pub returns : goal.returns
 returns g c =
     let n = c.args.n in
     let x = g.E.Exchange.meaning c.args.exchange.now in
-    let room : n * n ≤ length c.hear-all.new.blocks = omega (arith, c.requires.room, c.hear-all.auto.blocks) in
+    let room : n * n ≤ length c.hear_all.new.blocks = omega (arith, c.requires.room, c.hear_all.auto.blocks) in
     record {
-      slots = picks_chosen g.met.L.Ordered.total n c.args.t c.args.phase x c.args.slots.now c.hear-all.new.blocks c.keep-claims.new.heard c.requires.first c.hear-all.ensures.fills room c.keep-claims.ensures _ c.choose-picks.ensures;
-      exchange = c.hear-all.ensures.leaves;
+      slots = picks_chosen g.met.L.Ordered.total n c.args.t c.args.phase x c.args.slots.now c.hear_all.new.blocks c.keep_claims.new.heard c.requires.first c.hear_all.ensures.fills room c.keep_claims.ensures _ c.choose_picks.ensures;
+      exchange = c.hear_all.ensures.leaves;
     }

@@ -3,8 +3,8 @@ use Rattle.panel.specs.Panel.{after_asks, firsts}
 use Rattle.panel.proofs.Hearing.{ready_at, rounds_at, next_within, asked_more, filled_more}
 use Rattle.panel.proofs.steps.hear_all.Goals as goal
 
-pub hear-block-requires : goal.hear-block-requires
-hear-block-requires g c =
+pub hear_block-requires : goal.hear_block-requires
+hear_block-requires g c =
     let x = g.E.Exchange.meaning c.args.exchange.now in
     let y = g.E.Exchange.meaning c.loop-g.exchange in
     let slots = c.args.slots.now in
@@ -22,9 +22,9 @@ pub loop-g-preserved : goal.loop-g-preserved
 loop-g-preserved g c =
     let x = g.E.Exchange.meaning c.args.exchange.now in
     let y = g.E.Exchange.meaning c.loop-g.exchange in
-    let h = c.hear-block.ensures in (
+    let h = c.hear_block.ensures in (
       asked_more x c.args.n c.args.slots.now c.loop-g.g y _ c.loop-g.invariant.0 h.leaves,
-      filled_more x c.args.n c.args.slots.now c.loop-g.g y c.loop-g.blocks c.hear-block.new.blocks c.loop-g.invariant.0 c.loop-g.invariant.1 h.before h.here,
+      filled_more x c.args.n c.args.slots.now c.loop-g.g y c.loop-g.blocks c.hear_block.new.blocks c.loop-g.invariant.0 c.loop-g.invariant.1 h.before h.here,
     )
 
 pub returns : goal.returns

@@ -14,7 +14,7 @@ loop-p-preserved g c =
     let new = λ (p : ℕ). or_else (at before p 9) (taken p) in
     let p = c.loop-p.p in
     let kept : at c.loop-p.slots p 9 ≡ at before p 9 = ap (λ u. at u p 9) c.loop-p.invariant ∙ put_above 9 (omega arith) new before p (10 * p + 9) (omega arith) in
-    put_more 9 new before p c.loop-p.slots _ _ c.loop-p.invariant (ap (λ u. or_else u (taken p)) kept) c.settle-one.ensures
+    put_more 9 new before p c.loop-p.slots _ _ c.loop-p.invariant (ap (λ u. or_else u (taken p)) kept) c.settle_one.ensures
 
 pub returns : goal.returns
 returns g c =

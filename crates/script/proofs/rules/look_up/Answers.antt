@@ -1,8 +1,8 @@
-use Rattle.std.proofs.Common.{◌≡◌, ℕ, ◌+◌, ◌*◌, ◌<◌, ◌≤◌, length, get_or, drop, None, sym, ap, ◌∙◌, arith}
+use Rattle.std.proofs.Common.{◌≡◌, ◌+◌, ◌*◌, ◌≤◌, length, get_or, drop, None, ap, ◌∙◌, arith}
 use Rattle.std.proofs.lemmas.List.{get_or_default, get_or-replicate}
 use Rattle.script.specs.declared.model.Record.{Record}
 use Rattle.script.specs.ScriptAnswers.{first_rule}
-use Rattle.script.proofs.Tables.{or_else, Entered, entered_all, entered_more}
+use Rattle.script.proofs.Tables.{or_else, entered_all, entered_more}
 use Rattle.script.proofs.rules.look_up.Goals as goal
 
 abbrev none : Record

@@ -6,4 +6,4 @@ use Rattle.script.proofs.running.open_panel.Goals as goal
 pub returns : goal.returns
 returns g c =
     let vs = c.args.proposals.now in
-    went_open g.L.Ordered.order (state c.args.panel.now) c.args.head.boards (borne c.args.head) c.faults-borne.result vs c.min-there.result _ _ _ c.faults-borne.ensures c.in-ok-fit.ensures.answer c.in-ok-fit.ensures.next (take_there c.args.head.boards _ vs c.min-there.ensures) c.propose-all.ensures
+    went_open g.L.Ordered.order (state c.args.panel.now) c.args.head.boards (borne c.args.head) c.faults_borne.result vs c.min-there.result _ _ _ c.faults_borne.ensures c.in_ok-fit.ensures.answer c.in_ok-fit.ensures.next (take_there c.args.head.boards _ vs c.min-there.ensures) c.propose_all.ensures

@@ -9,5 +9,5 @@ abbrev pub invariant-loop-i : goal.invariant-loop-i
 invariant-loop-i g l =
     let o = g.L.Ordered.order in
     let s = state l.initial.panel in
-    let c = phases o (sizes (length l.initial.heard) (length l.initial.picks) (length l.initial.work)) s (g.E.Exchange.meaning l.initial.exchange) l.-i in
+    let c = phases o (sizes (length l.initial.heard) (length l.initial.picks) (length l.initial.work)) s (g.E.Exchange.meaning l.initial.exchange) l._i in
     Going o s c.calls (state l.panel) × (g.E.Exchange.meaning l.exchange ≡ c.exchange)

@@ -1,4 +1,4 @@
 use Rattle.exchanges.proofs.path.Path.+place_of.Given as goal
 
-abbrev pub decreases-place-of : goal.decreases-place-of
-decreases-place-of l = l.k
+abbrev pub decreases-place_of : goal.decreases-place_of
+decreases-place_of l = l.k

@@ -8,19 +8,19 @@ use Rattle.exchanges.proofs.tree.TreeExchange.firm.Goals as goal
 
 pub returns : goal.returns
 returns g c =
-    let same = g.row.I-Item.same in
+    let same = g.I.Item.same in
     let plane = g.B.Backplane.plane in
     let t = c.args.self.now.faults in
     let b = c.args.self.now.plane in
-    let b' = c.firm-over.new.b in
+    let b' = c.firm_over.new.b in
     let s = c.args.sent.now in
     let h = c.args.heard.now in
-    let h' = c.firm-over.new.heard in
+    let h' = c.firm_over.new.heard in
     let w = c.args.work.now in
-    let w' = c.firm-over.new.work in
-    let r = c.firm-over.result in
+    let w' = c.firm_over.new.work in
+    let r = c.firm_over.result in
     record {
-      asked = firm_asked (tree_way same t) (tree_well same g.met.I.Item.tells t) plane (tree_exchange same plane) (λ b. record { plane = b; faults = t }) (λ b. refl) b b' s h h' w w' r c.firm-over.ensures.ran (left_kept same t plane b b' s h h' w w' r c.firm-over.ensures.ran c.firm-over.ensures.left c.firm-over.auto.work);
-      left = c.firm-over.ensures.left;
+      asked = firm_asked (tree_way same t) (tree_well same g.met.I.Item.tells t) plane (tree_exchange same plane) (λ b. record { plane = b; faults = t }) (λ b. refl) b b' s h h' w w' r c.firm_over.ensures.ran (left_kept same t plane b b' s h h' w w' r c.firm_over.ensures.ran c.firm_over.ensures.left c.firm_over.auto.work);
+      left = c.firm_over.ensures.left;
       laws = tree_laws;
     }

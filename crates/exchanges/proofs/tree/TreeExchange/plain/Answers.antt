@@ -6,7 +6,7 @@ use Rattle.exchanges.proofs.tree.TreeExchange.plain.Goals as goal
 
 pub returns : goal.returns
 returns g c =
-    let same = g.row.I-Item.same in
+    let same = g.I.Item.same in
     let plane = g.B.Backplane.plane in
     let t = c.args.self.now.faults in
-    plain_asked (tree_way same t) (tree_well same g.met.I.Item.tells t) plane (tree_exchange same plane) (λ b. record { plane = b; faults = t }) (λ b. refl) c.args.self.now.plane c.plain-over.new.b c.args.sent.now c.args.heard.now c.plain-over.new.heard c.plain-over.result c.plain-over.ensures
+    plain_asked (tree_way same t) (tree_well same g.met.I.Item.tells t) plane (tree_exchange same plane) (λ b. record { plane = b; faults = t }) (λ b. refl) c.args.self.now.plane c.plain_over.new.b c.args.sent.now c.args.heard.now c.plain_over.new.heard c.plain_over.result c.plain_over.ensures

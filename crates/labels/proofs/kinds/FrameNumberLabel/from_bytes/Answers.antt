@@ -6,4 +6,4 @@ use Rattle.labels.proofs.kinds.FrameNumberLabel.from_bytes.Goals as goal
 pub returns : goal.returns
 returns c =
     let long : length c.args.bytes.now ≡ 4 = omega arith in
-    sym (cond-true _ _ _ (eq-eqb _ _ long) ∙ frame_is _ c.new.result (sym (c.new.ensures ∙ c.number-at.ensures)))
+    sym (cond-true _ _ _ (eq-eqb _ _ long) ∙ frame_is _ c.new.result (sym (c.new.ensures ∙ c.number_at.ensures)))

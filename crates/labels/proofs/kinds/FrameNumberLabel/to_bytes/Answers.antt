@@ -7,4 +7,4 @@ pub returns : goal.returns
 returns c =
     let m = c.args.out.now in
     let long : length m ≡ 4 = omega arith in
-    (sym (eq-eqb _ _ long), c.put-number.ensures ∙ laid_all (four_bytes c.number.result) m long ∙ ap four_bytes c.number.ensures)
+    (sym (eq-eqb _ _ long), c.put_number.ensures ∙ laid_all (four_bytes c.number.result) m long ∙ ap four_bytes c.number.ensures)

@@ -16,4 +16,4 @@ made m n (Err e) h = sym (stamp_none m n h.1)
 pub returns : goal.returns
 returns c =
     let long : length c.args.bytes.now ≡ 8 = omega arith in
-    c.ok.ensures.value ∙ made _ _ c.new.result c.new.ensures ∙ ap (λ n. stamp_of n c.number-at-2.result) c.number-at.ensures ∙ ap (stamp_of _) c.number-at-2.ensures ∙ sym (cond-true _ _ _ (eq-eqb _ _ long))
+    c.ok.ensures.value ∙ made _ _ c.new.result c.new.ensures ∙ ap (λ n. stamp_of n c.number_at-2.result) c.number_at.ensures ∙ ap (stamp_of _) c.number_at-2.ensures ∙ sym (cond-true _ _ _ (eq-eqb _ _ long))

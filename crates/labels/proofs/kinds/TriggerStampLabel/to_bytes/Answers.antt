@@ -9,4 +9,4 @@ returns c =
     let long : length m ≡ 8 = omega arith in
     let s = four_bytes c.seconds.result in
     let t = four_bytes c.ticks.result in
-    (sym (eq-eqb _ _ long), c.put-number-2.ensures ∙ ap (laid t 4) c.put-number.ensures ∙ laid_two s t m long ∙ ap (λ n. four_bytes n ++ t) c.seconds.ensures ∙ ap (λ n. four_bytes c.args.self.seconds ++ four_bytes n) c.ticks.ensures)
+    (sym (eq-eqb _ _ long), c.put_number-2.ensures ∙ ap (laid t 4) c.put_number.ensures ∙ laid_two s t m long ∙ ap (λ n. four_bytes n ++ t) c.seconds.ensures ∙ ap (λ n. four_bytes c.args.self.seconds ++ four_bytes n) c.ticks.ensures)

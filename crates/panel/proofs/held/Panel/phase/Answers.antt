@@ -5,11 +5,11 @@ use Rattle.panel.specs.Modelled.{state}
 use Rattle.panel.proofs.Ending.{answers_err, unaltered_err, kept_err, exchanged_err, step_refused, next_run, exchanged_run, square, roomy, kept_part}
 use Rattle.panel.proofs.held.Panel.phase.Goals as goal
 
-pub returns-in-err-size : goal.returns-in-err-size
-returns-in-err-size g c =
-    let r = c.from-residual.result in
-    let p = err_from_is_err_and r c.from-residual.ensures.1 in
-    let a = c.in-err-size.ensures.answer in
+pub returns-in_err-size : goal.returns-in_err-size
+returns-in_err-size g c =
+    let r = c.from_residual.result in
+    let p = err_from_is_err_and r c.from_residual.ensures.1 in
+    let a = c.in_err-size.ensures.answer in
     let s = state c.args.self.now in
     let x = g.E.Exchange.meaning c.args.exchange.now in
     let e = phase x (sizes (length c.args.heard.now) (length c.args.picks.now) (length c.args.work.now)) in
@@ -27,18 +27,18 @@ pub returns : goal.returns
 returns g c =
     let self = c.args.self.now in
     let x = g.E.Exchange.meaning c.args.exchange.now in
-    let z = c.in-ok-size.size in
-    let is = c.in-ok-size.ensures.size in
-    let a = c.in-ok-size.ensures.answer in
+    let z = c.in_ok-size.size in
+    let is = c.in_ok-size.ensures.size in
+    let a = c.in_ok-size.ensures.answer in
     let room = roomy (state self) x (sizes (length c.args.heard.now) (length c.args.picks.now) (length c.args.work.now)) a in
     let o = g.L.Ordered.order in
     let area = square o self.size z is self.phases x self.slots.now in
     record {
       answer = a;
-      next = next_run o self.size z is self.phases x self.slots.now _ c.run-phase.new.slots a c.run-phase.ensures.slots;
+      next = next_run o self.size z is self.phases x self.slots.now _ c.run_phase.new.slots a c.run_phase.ensures.slots;
       unaltered = tt;
-      exchanged = exchanged_run o self.size z is self.phases x self.slots.now _ c.run-phase.ensures.exchange;
-      heard = kept_part _ (z.boards * z.boards) c.args.heard.now c.run-phase.new.heard area room.0 c.run-phase.auto.heard;
-      picks = kept_part _ (8 * (z.boards * z.boards)) c.args.picks.now c.run-phase.new.blocks (ap (λ k. 8 * k) area) room.1 c.run-phase.auto.blocks;
-      work = kept_part _ c.workspace-space.result c.args.work.now c.run-phase.new.work (sym c.workspace-space.ensures) room.2 c.run-phase.auto.work;
+      exchanged = exchanged_run o self.size z is self.phases x self.slots.now _ c.run_phase.ensures.exchange;
+      heard = kept_part _ (z.boards * z.boards) c.args.heard.now c.run_phase.new.heard area room.0 c.run_phase.auto.heard;
+      picks = kept_part _ (8 * (z.boards * z.boards)) c.args.picks.now c.run_phase.new.blocks (ap (λ k. 8 * k) area) room.1 c.run_phase.auto.blocks;
+      work = kept_part _ c.workspace-space.result c.args.work.now c.run_phase.new.work (sym c.workspace-space.ensures) room.2 c.run_phase.auto.work;
     }
