@@ -1,6 +1,6 @@
 -- What the rounds fill does not depend on what the slots held before.
 use Rattle.std.proofs.Common.{◌≡◌, ℕ, zero, suc, ◌<◌, ◌≤◌, cond, ◌&&◌, eqb, List, [], ◌∷◌, length, fold, Option, sym, ap, ◌∙◌, subst, inl, inr, arith}
-use Rattle.std.specs.List.{AllByRecursion as All}
+use Rattle.std.specs.List.{AllByRecursion}
 use Rattle.std.proofs.lemmas.Bool.{cases_eq}
 use Rattle.exchanges.specs.Plane.{Plane, turn, carry, after}
 use Rattle.exchanges.specs.Trees.{IsPath, same_path, Hop, hops, Run, hop, fill_round, fill}
@@ -32,20 +32,20 @@ module _ {I : Type 0} (n k : ℕ) where
     hop_made : (hop r h).trees h.to (h.from ∷ h.path) ≡ (hop r' h).trees h.to (h.from ∷ h.path)
     hop_made = put_same r.trees h.to (h.from ∷ h.path) _ ∙ answer ∙ sym (put_same r'.trees h.to (h.from ∷ h.path) _)
 
-  fold_alike : (r r' : Run I) (hs : List Hop) → Alike n k r r' → All (At n k) hs → Alike n k (fold hop r hs) (fold hop r' hs)
+  fold_alike : (r r' : Run I) (hs : List Hop) → Alike n k r r' → AllByRecursion (At n k) hs → Alike n k (fold hop r hs) (fold hop r' hs)
   fold_alike r r' [] a at = a
   fold_alike r r' (h ∷ hs) a at = fold_alike (hop r h) (hop r' h) hs (hop_alike r r' h a at.0) at.1
 
-  fold_same : (r r' : Run I) (hs : List Hop) → Alike n k r r' → All (At n k) hs → (p : ℕ) (β : List ℕ) → r.trees p β ≡ r'.trees p β → (fold hop r hs).trees p β ≡ (fold hop r' hs).trees p β
+  fold_same : (r r' : Run I) (hs : List Hop) → Alike n k r r' → AllByRecursion (At n k) hs → (p : ℕ) (β : List ℕ) → r.trees p β ≡ r'.trees p β → (fold hop r hs).trees p β ≡ (fold hop r' hs).trees p β
   fold_same r r' [] a at p β e = e
   fold_same r r' (h ∷ hs) a at p β e = fold_same (hop r h) (hop r' h) hs (hop_alike r r' h a at.0) at.1 p β (hop_same r r' h a at.0 p β e)
 
-  fold_made : (r r' : Run I) (hs : List Hop) → Alike n k r r' → All (At n k) hs → (g : Hop) → In g hs → (fold hop r hs).trees g.to (g.from ∷ g.path) ≡ (fold hop r' hs).trees g.to (g.from ∷ g.path)
+  fold_made : (r r' : Run I) (hs : List Hop) → Alike n k r r' → AllByRecursion (At n k) hs → (g : Hop) → In g hs → (fold hop r hs).trees g.to (g.from ∷ g.path) ≡ (fold hop r' hs).trees g.to (g.from ∷ g.path)
   fold_made r r' [] a at g i = absurd i
   fold_made r r' (h ∷ hs) a at g (inl e) = fold_same (hop r h) (hop r' h) hs (hop_alike r r' h a at.0) at.1 g.to (g.from ∷ g.path) (subst (λ (x : Hop). (hop r h).trees x.to (x.from ∷ x.path) ≡ (hop r' h).trees x.to (x.from ∷ x.path)) (sym e) (hop_made r r' h a at.0))
   fold_made r r' (h ∷ hs) a at g (inr i) = fold_made (hop r h) (hop r' h) hs (hop_alike r r' h a at.0) at.1 g i
 
-  module _ (all : All (At n k) (hops n k)) where
+  module _ (all : AllByRecursion (At n k) (hops n k)) where
     longer_alike : (r r' : Run I) → Alike n k r r' → (p : ℕ) (β : List ℕ) → p < n → IsPath n β → length β ≤ suc k → (fold hop r (hops n k)).trees p β ≡ (fold hop r' (hops n k)).trees p β
     longer_alike r r' a p [] lp path l = (fold_alike r r' (hops n k) a all).short p [] lp path (omega arith)
     longer_alike r r' a p (q ∷ α) lp path l =

@@ -1,6 +1,6 @@
 -- Carries one after the other: the loops over senders and paths make the carries of a round in its order.
 use Rattle.std.proofs.Common.{◌≡◌, ℕ, zero, suc, ◌+◌, Bool, true, false, cond, List, [], ◌∷◌, ◌++◌, map, fold, filter, Option, sym, refl, ap, ◌∙◌, subst, arith}
-use Rattle.std.specs.List.{range_with_len, flat_map, AllByRecursion as All}
+use Rattle.std.specs.List.{range_with_len, flat_map, AllByRecursion}
 use Rattle.std.proofs.lemmas.List.{append-nil, append_assoc, map-id}
 use Rattle.std.proofs.lemmas.List.FromFn.{filter_of_map_range_with_len_more}
 use Rattle.std.proofs.lemmas.Bool.{cond-true, cond-false}
@@ -21,7 +21,7 @@ pub joined_joined : {X Y Z : Type 0} (f : Y → List X) (g : Z → List Y) (zs :
 joined_joined f g [] = refl
 joined_joined f g (z ∷ zs) = joined_append f (g z) (flat_map g zs) ∙ ap (λ l. flat_map f (g z) ++ l) (joined_joined f g zs)
 
-pub joined_alike : {X Y : Type 0} (f g : Y → List X) (ys : List Y) → All (λ y. f y ≡ g y) ys → flat_map f ys ≡ flat_map g ys
+pub joined_alike : {X Y : Type 0} (f g : Y → List X) (ys : List Y) → AllByRecursion (λ y. f y ≡ g y) ys → flat_map f ys ≡ flat_map g ys
 joined_alike f g [] h = refl
 joined_alike f g (y ∷ ys) h = cc (h.0, joined_alike f g ys h.1)
 

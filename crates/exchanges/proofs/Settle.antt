@@ -1,6 +1,6 @@
 -- The reduction in place leaves in every slot what the path is reduced to.
 use Rattle.std.proofs.Common.{◌≡◌, ℕ, zero, suc, ◌+◌, ◌-◌, ◌*◌, ◌<◌, ◌≤◌, Bool, false, List, [], ◌∷◌, map, length, get_or, drop, set, None, fold, Option, sym, refl, ap, ◌∙◌, subst, inl, inr, arith, length-set}
-use Rattle.std.specs.List.{range_with_len, flat_map, AllByRecursion as All}
+use Rattle.std.specs.List.{range_with_len, flat_map, AllByRecursion}
 use Rattle.std.proofs.lemmas.List.{append-nil, drop-set-lt}
 use Rattle.std.proofs.ByRecursion.{All-weaker, All-map}
 use Rattle.std.proofs.lemmas.Bool.{cases_eq}
@@ -34,8 +34,8 @@ spots_level n k = spots_are n k [] ∙ ap (flat_map (spots_on n)) (under_level n
 abbrev At : ℕ → ℕ → Spot → Type 0
 At n k s = (s.board < n) × IsPath n s.path × (length s.path ≡ k)
 
-all_spots : (n k : ℕ) → All (At n k) (spots_under n [] k)
-all_spots n k = subst (λ (l : List Spot). All (At n k) l) (sym (spots_level n k)) (all_joined_at (At n k) (spots_on n) (level n k) (All-weaker (λ α. IsPath n α × (length α ≡ k)) _ (λ α h. All-map (At n k) (λ p. record { board = p; path = α }) (range_with_len 0 n) (all_counting (λ p. At n k (record { board = p; path = α })) 0 n (λ p u v. (omega arith, h.0, h.1)))) (level n k) (all_paths n k)))
+all_spots : (n k : ℕ) → AllByRecursion (At n k) (spots_under n [] k)
+all_spots n k = subst (λ (l : List Spot). AllByRecursion (At n k) l) (sym (spots_level n k)) (all_joined_at (At n k) (spots_on n) (level n k) (All-weaker (λ α. IsPath n α × (length α ≡ k)) _ (λ α h. All-map (At n k) (λ p. record { board = p; path = α }) (range_with_len 0 n) (all_counting (λ p. At n k (record { board = p; path = α })) 0 n (λ p u v. (omega arith, h.0, h.1)))) (level n k) (all_paths n k)))
 
 in_spots : (n p : ℕ) (β : List ℕ) → p < n → IsPath n β → In (record { board = p; path = β }) (spots_under n [] (length β))
 in_spots n p β lp path = subst (λ (l : List Spot). In (record { board = p; path = β }) l) (sym (spots_level n (length β))) (in_joined (spots_on n) (record { board = p; path = β }) β (level n (length β)) (in_level n β path) (in_map (λ x. record { board = x; path = β }) p (range_with_len 0 n) (in_counting p 0 n (omega arith) (omega arith))))
@@ -49,7 +49,7 @@ module _ {I : Type 0} (same : I → I → Bool) (n t : ℕ) where
   put_longer T p p' α β v k e d = elim (put_cases T p p' α β v) [ inl s ↦ absurd (d (ap length s.1 ∙ e)) | inr s ↦ s ]
 
   -- a level leaves the other lengths
-  level_kept : (k : ℕ) (T : Trees I) (ss : List Spot) → All (At n k) ss → (p : ℕ) (β : List ℕ) → (length β ≡ k → ⊥) → fold (settle_trees same n t) T ss p β ≡ T p β
+  level_kept : (k : ℕ) (T : Trees I) (ss : List Spot) → AllByRecursion (At n k) ss → (p : ℕ) (β : List ℕ) → (length β ≡ k → ⊥) → fold (settle_trees same n t) T ss p β ≡ T p β
   level_kept k T [] a p β d = refl
   level_kept k T (s ∷ ss) a p β d = level_kept k (settle_trees same n t T s) ss a.1 p β d ∙ put_longer T s.board p s.path β _ k a.0.2 d
 
@@ -57,14 +57,14 @@ module _ {I : Type 0} (same : I → I → Bool) (n t : ℕ) where
   gets_kept : (k : ℕ) (T : Trees I) (s : Spot) → At n k s → (p : ℕ) (β : List ℕ) → length β ≡ k → gets (settle_trees same n t T s) p β ≡ gets T p β
   gets_kept k T s at p β l = ap (reduce same n t (length β)) (map_same _ _ (others n β) (all_of _ (λ q. put_longer T s.board p s.path (q ∷ β) _ k at.2 (λ e. omega arith)) (others n β)))
 
-  spot_kept : (k : ℕ) (T : Trees I) (ss : List Spot) → All (At n k) ss → (p : ℕ) (β : List ℕ) → length β ≡ k → T p β ≡ gets T p β → fold (settle_trees same n t) T ss p β ≡ gets T p β
+  spot_kept : (k : ℕ) (T : Trees I) (ss : List Spot) → AllByRecursion (At n k) ss → (p : ℕ) (β : List ℕ) → length β ≡ k → T p β ≡ gets T p β → fold (settle_trees same n t) T ss p β ≡ gets T p β
   spot_kept k T [] a p β l e = e
   spot_kept k T (s ∷ ss) a p β l e =
       let T' = settle_trees same n t T s in
       let back = gets_kept k T s a.0 p β l in
       spot_kept k T' ss a.1 p β l (elim (put_cases T s.board p s.path β (gets T s.board s.path)) [ inl m ↦ ap (λ (x : ℕ). T' x β) m.0 ∙ ap (T' s.board) m.1 ∙ put_same T s.board s.path (gets T s.board s.path) ∙ sym (ap (λ (x : ℕ). gets T x β) m.0 ∙ ap (gets T s.board) m.1) ∙ sym back | inr m ↦ m ∙ e ∙ sym back ]) ∙ back
 
-  spot_made : (k : ℕ) (T : Trees I) (ss : List Spot) → All (At n k) ss → (s : Spot) → In s ss → fold (settle_trees same n t) T ss s.board s.path ≡ gets T s.board s.path
+  spot_made : (k : ℕ) (T : Trees I) (ss : List Spot) → AllByRecursion (At n k) ss → (s : Spot) → In s ss → fold (settle_trees same n t) T ss s.board s.path ≡ gets T s.board s.path
   spot_made k T [] a s i = absurd i
   spot_made k T (g ∷ ss) a s (inl e) =
       let T' = settle_trees same n t T g in
@@ -74,7 +74,7 @@ module _ {I : Type 0} (same : I → I → Bool) (n t : ℕ) where
       let (b, α) = kept_at_in k ss s a.1 i in
       spot_made k (settle_trees same n t T g) ss a.1 s i ∙ gets_kept k T g a.0 s.board s.path α
     where
-      kept_at_in : (k : ℕ) (ss : List Spot) (s : Spot) → All (At n k) ss → In s ss → (s.board < n) × (length s.path ≡ k)
+      kept_at_in : (k : ℕ) (ss : List Spot) (s : Spot) → AllByRecursion (At n k) ss → In s ss → (s.board < n) × (length s.path ≡ k)
       kept_at_in k [] s a i = absurd i
       kept_at_in k (g ∷ ss) s a (inl e) = subst (λ (x : Spot). (x.board < n) × (length x.path ≡ k)) (sym e) (a.0.0, a.0.2)
       kept_at_in k (g ∷ ss) s a (inr i) = kept_at_in k ss s a.1 i
@@ -104,7 +104,7 @@ module _ {I : Type 0} (same : I → I → Bool) (n t : ℕ) where
     abbrev Lies : List (Option I) → List (Option I) → Trees I → Type 0
     Lies rest ws T = Stands n t size own ws T × (n * size ≤ length ws) × (drop (n * size) ws ≡ rest)
 
-    level_stands : (rest ws : List (Option I)) (T : Trees I) (ss : List Spot) (k : ℕ) → All (At n k) ss → 1 ≤ k → k ≤ t → Lies rest ws T → Lies rest (fold (settle same n t size) ws ss) (fold (settle_trees same n t) T ss)
+    level_stands : (rest ws : List (Option I)) (T : Trees I) (ss : List Spot) (k : ℕ) → AllByRecursion (At n k) ss → 1 ≤ k → k ≤ t → Lies rest ws T → Lies rest (fold (settle same n t size) ws ss) (fold (settle_trees same n t) T ss)
     level_stands rest ws T [] k a one l st = st
     level_stands rest ws T (s ∷ ss) k a one l st =
         let v = reduce same n t (length s.path) (map (λ q. get_or ws (slot n size s.board (q ∷ s.path)) None) (others n s.path)) in

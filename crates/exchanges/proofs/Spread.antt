@@ -1,6 +1,6 @@
 -- The paths of a tree in their order have the places from 0 on, so that the trees of all boards are one list of slots. Assumes nothing.
 use Rattle.std.proofs.Common.{◌≡◌, ℕ, zero, suc, ◌+◌, ◌-◌, ◌*◌, ◌<◌, ◌≤◌, Bool, List, [], ◌∷◌, ◌++◌, map, length, get_or, take, drop, None, Option, sym, refl, ap, ◌∙◌, suc-mul, zero-mul, add-one, arith, take-append-drop}
-use Rattle.std.specs.List.{range_with_len, flat_map, AllByRecursion as All}
+use Rattle.std.specs.List.{range_with_len, flat_map, AllByRecursion}
 use Rattle.std.proofs.lemmas.List.{map-append, ext_get_or, length-map, length-take, get_or-map, get_or-take, append-nil}
 use Rattle.std.proofs.lemmas.Simd.{map-map}
 use Rattle.std.proofs.lemmas.List.FromFn.{length-range_with_len, get_or-range_with_len, fill_by_all}
@@ -73,10 +73,10 @@ tree_places n t =
     let e : suc (t + 1) ≡ t + 2 = omega arith in
     map_joined (place n) (level n) (range_with_len 1 (t + 1)) ∙ first_places n (t + 1) ∙ ap (λ (m : ℕ). range_with_len 0 (start n m)) e
 
-all_tree : (n t : ℕ) → All (λ α. IsPath n α × (1 ≤ length α) × (length α ≤ t + 1)) (paths n t)
+all_tree : (n t : ℕ) → AllByRecursion (λ α. IsPath n α × (1 ≤ length α) × (length α ≤ t + 1)) (paths n t)
 all_tree n t =
     let P : List ℕ → Type 0 = λ α. IsPath n α × (1 ≤ length α) × (length α ≤ t + 1) in
-    all_joined_at P (level n) (range_with_len 1 (t + 1)) (all_counting (λ k. All P (level n k)) 1 (t + 1) (λ k u v. All-weaker (λ α. IsPath n α × (length α ≡ k)) P (λ α h. (h.0, omega (arith, h.1), omega (arith, h.1))) (level n k) (all_paths n k)))
+    all_joined_at P (level n) (range_with_len 1 (t + 1)) (all_counting (λ k. AllByRecursion P (level n k)) 1 (t + 1) (λ k u v. All-weaker (λ α. IsPath n α × (length α ≡ k)) P (λ α h. (h.0, omega (arith, h.1), omega (arith, h.1))) (level n k) (all_paths n k)))
 
 -- slots that hold what every path is reduced to are the workspace, with what lies beyond
 module _ {I : Type 0} (same : I → I → Bool) (n t size : ℕ) (sized : size ≡ tree_size n t) (T : Trees I) (ws : List (Option I)) (room : n * size ≤ length ws) (holds : (p : ℕ) (α : List ℕ) → p < n → IsPath n α → 1 ≤ length α → length α ≤ t + 1 → get_or ws (slot n size p α) None ≡ reduced same n t T (t + 1 - length α) p α) where

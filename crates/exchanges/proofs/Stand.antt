@@ -1,6 +1,6 @@
 -- The slots that the carries fill hold the trees that the rounds fill.
 use Rattle.std.proofs.Common.{◌≡◌, ℕ, suc, ◌+◌, ◌-◌, ◌*◌, ◌/◌, ◌%◌, ◌<◌, ◌≤◌, List, [], ◌∷◌, length, get_or, drop, set, None, fold, Option, sym, ap, ◌∙◌, subst, inl, inr, arith, length-set}
-use Rattle.std.specs.List.{AllByRecursion as All}
+use Rattle.std.specs.List.{AllByRecursion}
 use Rattle.std.proofs.lemmas.List.{get_or-set_same, get_or-set_other, drop-set-lt}
 use Rattle.std.proofs.lemmas.Nat.{div-mul-add, mod-mul-add}
 use Rattle.std.proofs.lemmas.Bool.{cases_eq, cases_order}
@@ -67,6 +67,6 @@ module _ (n t size : ℕ) (sized : size ≡ tree_size n t) where
             beyond = drop-set-lt (n * size) w.slots (slot n size h.to (h.from ∷ h.path)) got (slot_below n t size h.to (h.from ∷ h.path) sized k.0 k.1 (omega arith) (omega (arith, k.2))) ∙ a.beyond;
           }
 
-      pub fold_agrees : (w : Work I) (r : Run I) (hs : List Hop) → Agrees n t size own rest w r → All (At n m) hs → Agrees n t size own rest (fold (carried n size own) w hs) (fold hop r hs)
+      pub fold_agrees : (w : Work I) (r : Run I) (hs : List Hop) → Agrees n t size own rest w r → AllByRecursion (At n m) hs → Agrees n t size own rest (fold (carried n size own) w hs) (fold hop r hs)
       fold_agrees w r [] a k = a
       fold_agrees w r (h ∷ hs) a k = fold_agrees (carried n size own w h) (hop r h) hs (step_agrees w r h a k.0) k.1

@@ -1,7 +1,7 @@
 -- The theorem of the tree exchange, over any family of trees in which each slot of a sound sender's path holds what that sender's own tree holds, or silence.
 use Rattle.std.specs.Prelude.{◌≡◌, ℕ, zero, suc, ◌+◌, ◌-◌, ◌*◌, ◌<◌, ◌≤◌, Bool, true, false, not, ◌⊎◌, List, ◌∷◌, map, length, Some, None, count_by, Option, ◌≢◌}
 use Rattle.std.proofs.Common.{sym, ap, ◌∙◌, inl, inr, arith}
-use Rattle.std.specs.List.{range_with_len, AllByRecursion as All}
+use Rattle.std.specs.List.{range_with_len, AllByRecursion}
 use Rattle.std.proofs.lemmas.Bool.{cases_Bool, not-true}
 use Rattle.std.proofs.ByRecursion.{All-weaker}
 use Rattle.labels.specs.Item.{Tells}
@@ -62,7 +62,7 @@ module _ {I : Type 0} (same : I → I → Bool) (tells : Tells same) (n t : ℕ)
         elim (sound_kept (suc h) p q α lp path len sound) [ inl e ↦ e | inr e ↦ elim (cases_option (T q α)) [ inl d ↦ e ∙ sym d | inr w ↦ absurd (all_enough same tells n t bad room few (q ∷ α) path (omega arith) (λ c. val h p (c ∷ q ∷ α)) w.0 (λ c inside s. sound_told h p c (q ∷ α) lp sp (inside.0, inside.1, path) (omega arith) s ∙ lossless c q α inside.0 s path (omega arith) sound ∙ w.1) e) ] ]
 
     -- in a steady exchange every path of bad boards is common to all sound boards
-    pub bad_common : (h p p' : ℕ) (α : List ℕ) → p < n → bad p ≡ false → p' < n → bad p' ≡ false → IsPath n α → All (λ q. bad q ≡ true) α → length α + h ≡ t + 1 → val h p α ≡ val h p' α
+    pub bad_common : (h p p' : ℕ) (α : List ℕ) → p < n → bad p ≡ false → p' < n → bad p' ≡ false → IsPath n α → AllByRecursion (λ q. bad q ≡ true) α → length α + h ≡ t + 1 → val h p α ≡ val h p' α
     bad_common zero p p' α lp sp lp' sp' path bads len = absurd (omega (arith, path_short bad n α path bads))
     bad_common (suc h) p p' α lp sp lp' sp' path bads len =
         ap (reduce same n t (length α)) (map_same (λ c. val h p (c ∷ α)) (λ c. val h p' (c ∷ α)) (others n α) (All-weaker (λ c. (c < n) × (on c α ≡ false)) _ (λ c inside. elim (cases_Bool (bad c)) [ inl b ↦ bad_common h p p' (c ∷ α) lp sp lp' sp' (inside.0, inside.1, path) (b, bads) (omega arith) | inr s ↦ sound_told h p c α lp sp (inside.0, inside.1, path) (omega arith) s ∙ sym (sound_told h p' c α lp' sp' (inside.0, inside.1, path) (omega arith) s) ]) (others n α) (all_others n α)))

@@ -1,7 +1,7 @@
 -- Counting boards: those of a list that pass a test, those on a path, those left over.
 use Rattle.std.specs.Prelude.{◌≡◌, ℕ, zero, suc, ◌+◌, ◌<◌, ◌≤◌, Bool, true, false, cond, not, ◌&&◌, ◌||◌, List, [], ◌∷◌, map, length, count_by, filter, ◌==◌, ◌≢◌, refl}
 use Rattle.std.proofs.Common.{sym, ap, ◌∙◌, inl, inr, arith, zero-add, add-one}
-use Rattle.std.specs.List.{range_with_len, AllByRecursion as All}
+use Rattle.std.specs.List.{range_with_len, AllByRecursion}
 use Rattle.std.proofs.lemmas.List.Sums.{sum_by-cons, length-filter}
 use Rattle.std.proofs.lemmas.List.FromFn.{length-range_with_len, sum_by-map-range_with_len_more}
 use Rattle.std.proofs.lemmas.List.{map-id}
@@ -18,15 +18,15 @@ module _ {X : Type 0} where
   count_no p x xs e = sum_by-cons (λ y. cond (p y) 1 0) x xs ∙ ap (λ (b : Bool). cond b 1 0 + count_by p xs) e ∙ zero-add _
 
   -- a test that passes wherever another does counts no less
-  pub count_le : (p q : X → Bool) (xs : List X) → All (λ x. p x ≡ true → q x ≡ true) xs → count_by p xs ≤ count_by q xs
+  pub count_le : (p q : X → Bool) (xs : List X) → AllByRecursion (λ x. p x ≡ true → q x ≡ true) xs → count_by p xs ≤ count_by q xs
   count_le p q [] h = omega arith
   count_le p q (x ∷ xs) h = elim (cases_Bool (p x)) [ inl e ↦ omega (arith, count_yes p x xs e, count_yes q x xs (h.0 e), count_le p q xs h.1) | inr e ↦ elim (cases_Bool (q x)) [ inl d ↦ omega (arith, count_no p x xs e, count_yes q x xs d, count_le p q xs h.1) | inr d ↦ omega (arith, count_no p x xs e, count_no q x xs d, count_le p q xs h.1) ] ]
 
-  pub count_same : (p q : X → Bool) (xs : List X) → All (λ x. p x ≡ q x) xs → count_by p xs ≡ count_by q xs
+  pub count_same : (p q : X → Bool) (xs : List X) → AllByRecursion (λ x. p x ≡ q x) xs → count_by p xs ≡ count_by q xs
   count_same p q [] h = refl
   count_same p q (x ∷ xs) h = elim (cases_Bool (p x)) [ inl e ↦ omega (arith, count_yes p x xs e, count_yes q x xs (sym h.0 ∙ e), count_same p q xs h.1) | inr e ↦ omega (arith, count_no p x xs e, count_no q x xs (sym h.0 ∙ e), count_same p q xs h.1) ]
 
-  pub count_all : (p : X → Bool) (xs : List X) → All (λ x. p x ≡ true) xs → count_by p xs ≡ length xs
+  pub count_all : (p : X → Bool) (xs : List X) → AllByRecursion (λ x. p x ≡ true) xs → count_by p xs ≡ length xs
   count_all p [] h = refl
   count_all p (x ∷ xs) h = omega (arith, count_yes p x xs h.0, count_all p xs h.1)
 
@@ -44,26 +44,26 @@ module _ {X : Type 0} where
       let ih = count_cons p x (filter f xs) xs (count_kept p f xs) in
       cond_both (f x) (x ∷ filter f xs) (filter f xs) (λ l. count_by p l ≤ count_by p (x ∷ xs)) (λ e. ih.0) (λ e. ih.1)
 
-  pub all_kept : (P : X → Type 0) (f : X → Bool) (xs : List X) → All P xs → All (λ x. P x × (f x ≡ true)) (filter f xs)
+  pub all_kept : (P : X → Type 0) (f : X → Bool) (xs : List X) → AllByRecursion P xs → AllByRecursion (λ x. P x × (f x ≡ true)) (filter f xs)
   all_kept P f [] h = tt
   all_kept P f (x ∷ xs) h =
       let ih = all_kept P f xs h.1 in
-      cond_both (f x) (x ∷ filter f xs) (filter f xs) (λ l. All (λ y. P y × (f y ≡ true)) l) (λ e. ((h.0, e), ih)) (λ e. ih)
+      cond_both (f x) (x ∷ filter f xs) (filter f xs) (λ l. AllByRecursion (λ y. P y × (f y ≡ true)) l) (λ e. ((h.0, e), ih)) (λ e. ih)
 
-  pub all_both : (P Q R : X → Type 0) → ((x : X) → P x → Q x → R x) → (xs : List X) → All P xs → All Q xs → All R xs
+  pub all_both : (P Q R : X → Type 0) → ((x : X) → P x → Q x → R x) → (xs : List X) → AllByRecursion P xs → AllByRecursion Q xs → AllByRecursion R xs
   all_both P Q R f [] g h = tt
   all_both P Q R f (x ∷ xs) g h = (f x g.0 h.0, all_both P Q R f xs g.1 h.1)
 
-  pub all_of : (P : X → Type 0) → ((x : X) → P x) → (xs : List X) → All P xs
+  pub all_of : (P : X → Type 0) → ((x : X) → P x) → (xs : List X) → AllByRecursion P xs
   all_of P f [] = tt
   all_of P f (x ∷ xs) = (f x, all_of P f xs)
 
-  pub map_same : {Y : Type 0} (v w : X → Y) (xs : List X) → All (λ x. v x ≡ w x) xs → map v xs ≡ map w xs
+  pub map_same : {Y : Type 0} (v w : X → Y) (xs : List X) → AllByRecursion (λ x. v x ≡ w x) xs → map v xs ≡ map w xs
   map_same v w [] h = refl
   map_same v w (x ∷ xs) h = cc (h.0, map_same v w xs h.1)
 
   -- two tests that together count more than there are pass somewhere at once
-  pub meet : (f g : X → Bool) (P : X → Type 0) (xs : List X) → All P xs → length xs < count_by f xs + count_by g xs → (x : X) × P x × (f x ≡ true) × (g x ≡ true)
+  pub meet : (f g : X → Bool) (P : X → Type 0) (xs : List X) → AllByRecursion P xs → length xs < count_by f xs + count_by g xs → (x : X) × P x × (f x ≡ true) × (g x ≡ true)
   meet f g P [] h l = absurd (omega arith)
   meet f g P (x ∷ xs) h l =
       elim (cases_Bool (f x)) [ inl e ↦ elim (cases_Bool (g x)) [ inl d ↦ (x, h.0, e, d) | inr d ↦ meet f g P xs h.1 (omega (arith, count_yes f x xs e, count_no g x xs d)) ] | inr e ↦ meet f g P xs h.1 (elim (cases_Bool (g x)) [ inl d ↦ omega (arith, count_no f x xs e, count_yes g x xs d) | inr d ↦ omega (arith, count_no f x xs e, count_no g x xs d) ]) ]
@@ -73,7 +73,7 @@ count_map p v [] = refl
 count_map p v (x ∷ xs) = elim (cases_Bool (p (v x))) [ inl e ↦ omega (arith, count_yes p (v x) (map v xs) e, count_yes (λ y. p (v y)) x xs e, count_map p v xs) | inr e ↦ omega (arith, count_no p (v x) (map v xs) e, count_no (λ y. p (v y)) x xs e, count_map p v xs) ]
 
 -- what holds of each number from a on, n of them
-pub all_counting : (P : ℕ → Type 0) (a n : ℕ) → ((x : ℕ) → a ≤ x → x < a + n → P x) → All P (range_with_len a n)
+pub all_counting : (P : ℕ → Type 0) (a n : ℕ) → ((x : ℕ) → a ≤ x → x < a + n → P x) → AllByRecursion P (range_with_len a n)
 all_counting P a zero f = tt
 all_counting P a (suc n) f = (f a (omega arith) (omega arith), all_counting P (a + 1) n (λ x g h. f x (omega arith) (omega arith)))
 
@@ -110,7 +110,7 @@ count_off n (q ∷ α) h =
 pub length_others : (n : ℕ) (α : List ℕ) → IsPath n α → length (others n α) + length α ≡ n
 length_others n α h = omega (arith, count_off n α h, length-filter (λ q. not (on q α)) (range_with_len 0 n))
 
-pub all_others : (n : ℕ) (α : List ℕ) → All (λ q. (q < n) × (on q α ≡ false)) (others n α)
+pub all_others : (n : ℕ) (α : List ℕ) → AllByRecursion (λ q. (q < n) × (on q α ≡ false)) (others n α)
 all_others n α =
     let P : ℕ → Type 0 = λ q. q < n in
     let f : ℕ → Bool = λ q. not (on q α) in
@@ -118,14 +118,14 @@ all_others n α =
     All-weaker (λ q. P q × (f q ≡ true)) _ (λ q h. (h.0, not-true (on q α) h.1)) (others n α) kept
 
 -- a path off q, and q apart from each board on it
-pub off_apart : (q : ℕ) (α : List ℕ) → on q α ≡ false → All (λ a. a ≢ q) α
+pub off_apart : (q : ℕ) (α : List ℕ) → on q α ≡ false → AllByRecursion (λ a. a ≢ q) α
 off_apart q [] h = tt
 off_apart q (a ∷ α) h =
     let parts = or_parts (q == a) (on q α) h in
     (λ e. eqb-false q a parts.0 (sym e), off_apart q α parts.1)
 
 -- a path of boards that pass a test is no longer than there are such boards
-pub path_short : (bad : ℕ → Bool) (n : ℕ) (α : List ℕ) → IsPath n α → All (λ q. bad q ≡ true) α → length α ≤ count_by bad (range_with_len 0 n)
+pub path_short : (bad : ℕ → Bool) (n : ℕ) (α : List ℕ) → IsPath n α → AllByRecursion (λ q. bad q ≡ true) α → length α ≤ count_by bad (range_with_len 0 n)
 path_short bad n [] h g = omega arith
 path_short bad n (q ∷ α) h g =
     let one = count_minus bad q 0 n g.0 (omega arith) (omega arith) in

@@ -1,7 +1,7 @@
 -- What the rounds fill: each slot holds what the backplane answered to its sender's own slot.
 use Rattle.std.specs.Prelude.{◌≡◌, ℕ, zero, suc, ◌+◌, ◌<◌, ◌≤◌, true, ◌&&◌, ◌⊎◌, List, [], ◌∷◌, length, fold, Option, ◌==◌, nat_lt, refl}
 use Rattle.std.proofs.Common.{sym, ap, subst, ◌∙◌, inl, inr, arith}
-use Rattle.std.specs.List.{AllByRecursion as All}
+use Rattle.std.specs.List.{AllByRecursion}
 use Rattle.std.proofs.lemmas.Bool.{cases_Bool, cases_eq, cond-true, cond-false, and_parts, and_from, eqb-true, eq-eqb, false≢true, lt-ltb}
 use Rattle.exchanges.specs.Plane.{Plane, turn, carry, after, last_round, next_round}
 use Rattle.exchanges.specs.Trees.{IsPath, Trees, same_path, put, Hop, hops, Run, hop, fill}
@@ -69,12 +69,12 @@ module _ {I : Type 0} (b₀ : Plane I) (r : ℕ) where
   fold_from r' w [] f = f
   fold_from r' w (h ∷ hs) f = fold_from r' (hop w h) hs (from_carry b₀ w.plane r' h.from h.to _ f)
 
-  fold_keeps : (m : ℕ) (w : Run I) (hs : List Hop) (p q : ℕ) (α : List ℕ) → All (λ h. length h.path ≡ m) hs → From b₀ w.plane (r + suc m) → length α ≤ m → Answered w.trees p q α → Answered (fold hop w hs).trees p q α
+  fold_keeps : (m : ℕ) (w : Run I) (hs : List Hop) (p q : ℕ) (α : List ℕ) → AllByRecursion (λ h. length h.path ≡ m) hs → From b₀ w.plane (r + suc m) → length α ≤ m → Answered w.trees p q α → Answered (fold hop w hs).trees p q α
   fold_keeps m w [] p q α a f l g = g
   fold_keeps m w (h ∷ hs) p q α a f l g =
       fold_keeps m (hop w h) hs p q α a.1 (from_carry b₀ w.plane (r + suc m) h.from h.to _ f) l (hop_keeps w h p q α (subst (λ (x : ℕ). From b₀ w.plane (r + suc x)) (sym a.0) f) (omega (arith, a.0)) g)
 
-  fold_makes : (m : ℕ) (w : Run I) (hs : List Hop) (h : Hop) → All (λ h. length h.path ≡ m) hs → From b₀ w.plane (r + suc m) → In h hs → Answered (fold hop w hs).trees h.to h.from h.path
+  fold_makes : (m : ℕ) (w : Run I) (hs : List Hop) (h : Hop) → AllByRecursion (λ h. length h.path ≡ m) hs → From b₀ w.plane (r + suc m) → In h hs → Answered (fold hop w hs).trees h.to h.from h.path
   fold_makes m w [] h a f i = absurd i
   fold_makes m w (k ∷ hs) h a f (inl e) =
       fold_keeps m (hop w k) hs h.to h.from h.path a.1 (from_carry b₀ w.plane (r + suc m) k.from k.to _ f) (omega (arith, a.0, ap (λ (x : Hop). length x.path) e)) (subst (λ (x : Hop). Answered (hop w k).trees x.to x.from x.path) (sym e) (hop_makes w k (subst (λ (x : ℕ). From b₀ w.plane (r + suc x)) (sym a.0) f)))

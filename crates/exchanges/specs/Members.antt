@@ -1,7 +1,7 @@
 -- What stands in the lists of paths and carries.
 use Rattle.std.specs.Prelude.{◌≡◌, ℕ, zero, suc, ◌+◌, ◌<◌, ◌≤◌, Bool, true, false, not, ◌⊎◌, List, [], ◌∷◌, ◌++◌, map, length, filter, refl}
 use Rattle.std.proofs.Common.{sym, ap, subst, ◌∙◌, inl, inr, arith}
-use Rattle.std.specs.List.{range_with_len, flat_map, AllByRecursion as All}
+use Rattle.std.specs.List.{range_with_len, flat_map, AllByRecursion}
 use Rattle.std.proofs.ByRecursion.{All-map, All-weaker}
 use Rattle.std.proofs.lemmas.Bool.{cases_eq, cond_both, not_from_false, both_ways}
 use Rattle.exchanges.specs.Trees.{IsPath, on, others, level, Hop, hops}
@@ -60,10 +60,10 @@ in_hops n p q α l h =
 abbrev pub At : ℕ → ℕ → Hop → Type 0
 At n r h = (h.to < n) × IsPath n (h.from ∷ h.path) × (length h.path ≡ r)
 
-pub all_hops : (n r : ℕ) → All (At n r) (hops n r)
+pub all_hops : (n r : ℕ) → AllByRecursion (At n r) (hops n r)
 all_hops n r =
     let one : ℕ → List ℕ → ℕ → Hop = λ x β y. record { path = β; from = x; to = y } in
     all_joined_at (At n r) (λ β. flat_map (λ x. map (one x β) (range_with_len 0 n)) (others n β)) (level n r) (All-weaker (λ α. IsPath n α × (length α ≡ r)) _ (λ α h. all_joined_at (At n r) (λ x. map (one x α) (range_with_len 0 n)) (others n α) (All-weaker (λ q. (q < n) × (on q α ≡ false)) _ (λ q g. All-map (At n r) (one q α) (range_with_len 0 n) (all_counting (λ p. At n r (one q α p)) 0 n (λ p u v. (omega arith, (g.0, g.1, h.0), h.1)))) (others n α) (all_others n α))) (level n r) (all_paths n r))
 
-pub all_long : (n r : ℕ) → All (λ h. length h.path ≡ r) (hops n r)
+pub all_long : (n r : ℕ) → AllByRecursion (λ h. length h.path ≡ r) (hops n r)
 all_long n r = All-weaker (At n r) _ (λ h a. a.2) (hops n r) (all_hops n r)

@@ -1,7 +1,7 @@
 -- The rank of a path is its place in the level of its length.
 use Rattle.std.specs.Prelude.{◌≡◌, ℕ, zero, suc, ◌+◌, ◌-◌, ◌*◌, ◌<◌, Bool, true, false, not, List, [], ◌∷◌, ◌++◌, map, length, get_or, count_by, filter, ◌==◌, nat_lt, slice_index, slice_index_or, refl}
 use Rattle.std.proofs.Common.{sym, ap, ◌∙◌, inl, inr, arith, zero-mul, suc-mul}
-use Rattle.std.specs.List.{range_with_len, flat_map, AllByRecursion as All}
+use Rattle.std.specs.List.{range_with_len, flat_map, AllByRecursion}
 use Rattle.std.proofs.lemmas.List.{length-append, length-map, get_or_append_left, get_or-append_right, get_or-map}
 use Rattle.std.proofs.ByRecursion.{All-weaker, All-append, All-map}
 use Rattle.std.proofs.lemmas.Nat.{mul-add-lt}
@@ -40,11 +40,11 @@ other_at n q α h =
 
 -- a list of parts that are all as long
 module _ {X Y : Type 0} (f : Y → List X) (w : ℕ) where
-  joined_length : (ys : List Y) → All (λ y. length (f y) ≡ w) ys → length (flat_map f ys) ≡ length ys * w
+  joined_length : (ys : List Y) → AllByRecursion (λ y. length (f y) ≡ w) ys → length (flat_map f ys) ≡ length ys * w
   joined_length [] a = sym (zero-mul w)
   joined_length (y ∷ ys) a = omega (arith, length-append (f y) (flat_map f ys), a.0, joined_length ys a.1, suc-mul (length ys) w)
 
-  joined_at : (ys : List Y) (i j : ℕ) (d : X) (e : Y) → All (λ y. length (f y) ≡ w) ys → i < length ys → j < w → slice_index_or (flat_map f ys) (i * w + j) d ≡ slice_index_or (f (slice_index_or ys i e)) j d
+  joined_at : (ys : List Y) (i j : ℕ) (d : X) (e : Y) → AllByRecursion (λ y. length (f y) ≡ w) ys → i < length ys → j < w → slice_index_or (flat_map f ys) (i * w + j) d ≡ slice_index_or (f (slice_index_or ys i e)) j d
   joined_at [] i j d e a li lj = absurd (omega arith)
   joined_at (y ∷ ys) zero j d e a li lj =
       let at : 0 * w + j ≡ j = omega (arith, zero-mul w) in
@@ -53,18 +53,18 @@ module _ {X Y : Type 0} (f : Y → List X) (w : ℕ) where
       let at : suc i * w + j - w ≡ i * w + j = omega (arith, suc-mul i w) in
       get_or-append_right (f y) (flat_map f ys) w (suc i * w + j) d a.0 (omega (arith, suc-mul i w)) ∙ ap (λ (k : ℕ). get_or (flat_map f ys) k d) at ∙ joined_at ys i j d e a.1 (omega arith) lj
 
-pub all_joined_at : {X Y : Type 0} (P : X → Type 0) (f : Y → List X) (ys : List Y) → All (λ y. All P (f y)) ys → All P (flat_map f ys)
+pub all_joined_at : {X Y : Type 0} (P : X → Type 0) (f : Y → List X) (ys : List Y) → AllByRecursion (λ y. AllByRecursion P (f y)) ys → AllByRecursion P (flat_map f ys)
 all_joined_at P f [] h = tt
 all_joined_at P f (y ∷ ys) h = All-append P (f y) (flat_map f ys) h.0 (all_joined_at P f ys h.1)
 
-pub all_paths : (n k : ℕ) → All (λ α. IsPath n α × (length α ≡ k)) (level n k)
+pub all_paths : (n k : ℕ) → AllByRecursion (λ α. IsPath n α × (length α ≡ k)) (level n k)
 all_paths n zero = ((tt, refl), tt)
 all_paths n (suc k) =
     let P : List ℕ → Type 0 = λ α. IsPath n α × (length α ≡ suc k) in
     all_joined_at P (λ α. map (λ q. q ∷ α) (others n α)) (level n k) (All-weaker (λ α. IsPath n α × (length α ≡ k)) _ (λ α h. All-map P (λ q. q ∷ α) (others n α) (All-weaker (λ q. (q < n) × (on q α ≡ false)) _ (λ q g. ((g.0, g.1, h.0), ap suc h.1)) (others n α) (all_others n α))) (level n k) (all_paths n k))
 
 -- each path of a level has as many children as boards are off it
-widths : (n k : ℕ) → All (λ α. length (map (λ q. q ∷ α) (others n α)) ≡ n - k) (level n k)
+widths : (n k : ℕ) → AllByRecursion (λ α. length (map (λ q. q ∷ α) (others n α)) ≡ n - k) (level n k)
 widths n k = All-weaker (λ α. IsPath n α × (length α ≡ k)) _ (λ α h. omega (arith, length-map (others n α) (λ q. q ∷ α), length_others n α h.0, h.1)) (level n k) (all_paths n k)
 
 pub length_level : (n k : ℕ) → length (level n k) ≡ paths_of n k

@@ -1,6 +1,6 @@
 -- Cases settled by hand, with labels that are numbers.
 use Rattle.std.specs.Prelude.{◌≡◌, ℕ, cond, List, [], ◌∷◌, ◌++◌, map, get_or, replicate, Some, None, Option, ◌==◌, slice_index_or}
-use Rattle.std.specs.List.{AllByRecursion as All}
+use Rattle.std.specs.List.{AllByRecursion}
 use Rattle.labels.specs.Kinds.{by_number}
 use Rattle.exchanges.specs.Worked as trees
 use Rattle.panel.specs.Slots.{Slot}
@@ -41,4 +41,4 @@ cases =
     ∷ [])
 
 abbrev pub Worked : Type 0
-Worked = All Right cases
+Worked = AllByRecursion Right cases

@@ -1,13 +1,13 @@
 -- What a script backplane obeys, said of the records as they stand.
 use Rattle.std.specs.Prelude.{◌≡◌, ℕ, ◌+◌, ◌<◌, true, false, ◌&&◌, List, [], ◌∷◌, ◌++◌, None, Decides, Option, ◌≢◌, count_ones}
-use Rattle.std.specs.List.{slice_get, AllByRecursion as All}
+use Rattle.std.specs.List.{slice_get, AllByRecursion}
 use Rattle.exchanges.specs.Boards.{Sound, bit, count}
 use Rattle.exchanges.specs.Plane.{Plane, Call, round_after}
 use Rattle.script.specs.declared.model.Record.{Record}
 
 -- no record of the list is for the round and sender
 abbrev pub Unsaid : List Record → ℕ → ℕ → Type 0
-Unsaid l r s = All (λ c. c.round ≡ r → c.sender ≢ s) l
+Unsaid l r s = AllByRecursion (λ c. c.round ≡ r → c.sender ≢ s) l
 
 -- c is the first of the records for the round and sender, and these stand before it
 pub record First (records earlier : List Record) (c : Record) (r s : ℕ) : Type 0 where
