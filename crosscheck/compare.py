@@ -1,7 +1,7 @@
 #!/usr/bin/env python3
 """Runs random scripts through the proved bench and through twin.rs, and tells where they differ.
 
-    rustc -O -o /tmp/twin crosscheck/twin.rs && crosscheck/compare.py target/bin/bench /tmp/twin 3000
+    rustc -O -o /tmp/twin crosscheck/twin.rs && crosscheck/compare.py crates/bench/out/bench /tmp/twin 3000
 """
 import random
 import struct
