@@ -14,7 +14,7 @@ use exchanges::backplane::Backplane;
 use exchanges::maps::has;
 use labels::refusal::Refusal;
 
-// It owns its lists: a type that borrows them could not show the law of backplanes, as the checker takes no `impl` with a lifetime of a trait with a law.
+// A backplane that obeys the records of a script. It owns its lists.
 #[derive(Drop)]
 pub struct ScriptBackplane<I> {
     boards: u8,
