@@ -8,5 +8,5 @@ use std::io::Read;
 fn main(rt: HostRuntime) -> anyhow::Result<()> {
     let mut input = Vec::new(rt.alloc());
     rt.stdin().take(MOST_BYTES + 1).read_to_end(&mut input)?;
-    show_script(&rt, input.as_slice())
+    show_script(&rt, &input)
 }

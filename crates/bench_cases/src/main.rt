@@ -3,26 +3,47 @@
 // with a byte too little. Last comes a script that is too long.
 #![tactic(auto)]
 
+use report::error::ScriptError;
 use report::kinds::{restored, show_script};
+use std::alloc::{AllocError, Global};
 use std::io::Read;
 
 // More input than this is left unread.
 const MOST: u64 = 1_000_000;
 
-// What a hex digit stands for.
-fn digit(byte: u8) -> Option<u8> {
-    match byte {
-        b'0'..=b'9' => Some(byte - b'0'),
-        b'a'..=b'f' => Some(byte - b'a' + 10),
-        _ => None,
+// What a hex digit stands for; a capital is none.
+fn digit(byte: &u8) -> Option<u8> {
+    if byte.is_ascii_uppercase() {
+        return None;
     }
+    let value = char::from(*byte).to_digit(16)?;
+    u8::try_from(value).ok()
+}
+
+// The bytes that a text has in hex, two digits for each; all but digits is skipped.
+fn bytes_of(heap: Global, text: &[u8]) -> Result<Vec<u8>, AllocError> {
+    let digits: Vec<u8> = text.iter().filter_map(digit).collect(heap)?;
+    let (pairs, _) = digits.as_chunks::<2>();
+    pairs
+        .iter()
+        .map(|[high, low]| *high << 4 | *low)
+        .collect(heap)
+}
+
+// The script of a line; None where the line has a comment alone.
+fn script_of(heap: Global, line: &[u8]) -> Result<Option<Vec<u8>>, AllocError> {
+    let mut parts = line.split(|byte| *byte == b'#');
+    let script = bytes_of(heap, parts.next().unwrap_or(&[]))?;
+    let comment = parts.next().is_some();
+    Ok(Some(script).filter(|bytes| !comment || !bytes.is_empty()))
 }
 
 // What writing the script to an output of so many bytes comes to.
 fn show_written(rt: &HostRuntime, script: &[u8], size: usize) -> anyhow::Result<()> {
-    match restored(rt.alloc(), script, size)? {
+    match restored(rt.alloc(), script, size) {
         Ok(same) => println!(rt; "written to {size}: the same is {same}")?,
-        Err(fault) => println!(rt; "written to {size}: {fault}")?,
+        Err(ScriptError::NoMemory(error)) => return Err(error.into()),
+        Err(error) => println!(rt; "written to {size}: {error}")?,
     }
     Ok(())
 }
@@ -38,33 +59,16 @@ fn show_line(rt: &HostRuntime, number: usize, script: &[u8]) -> anyhow::Result<(
 fn main(rt: HostRuntime) -> anyhow::Result<()> {
     let mut input = Vec::new(rt.alloc());
     rt.stdin().take(MOST).read_to_end(&mut input)?;
-    let mut script = Vec::new(rt.alloc());
-    let mut high: Option<u8> = None;
-    let mut comment = false;
-    let mut number = 1usize;
-    for byte in input.as_slice() {
-        if *byte == b'\n' {
-            if !comment || !script.is_empty() {
-                show_line(&rt, number, script.as_slice())?;
-            }
-            script.clear();
-            high = None;
-            comment = false;
-            number = number.saturating_add(1);
-        } else if *byte == b'#' {
-            comment = true;
-        } else if !comment {
-            if let Some(low) = digit(*byte) {
-                match high {
-                    Some(first) => {
-                        script.push(first.wrapping_mul(16).wrapping_add(low))?;
-                        high = None;
-                    }
-                    None => high = Some(low),
-                }
-            }
+    let lines = input.split_inclusive(|byte| *byte == b'\n');
+    for (line, number) in lines.zip(1usize..) {
+        // A last line that has no end is left unread.
+        let Some((b'\n', line)) = line.split_last() else {
+            break;
+        };
+        if let Some(script) = script_of(rt.alloc(), line)? {
+            show_line(&rt, number, &script)?;
         }
     }
     println!(rt; "a byte too many")?;
-    show_script(&rt, vec![in rt.alloc(); 0u8; 60_001]?.as_slice())
+    show_script(&rt, &vec![in rt.alloc(); 0u8; 60_001]?)
 }

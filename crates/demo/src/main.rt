@@ -5,13 +5,16 @@
 #![tactic(auto)]
 
 mod firm_steps;
+mod rows;
 mod settle_steps;
 mod traced;
 mod watched;
 
 use crate::firm_steps::show_firm;
 use crate::settle_steps::show_settling;
+use labels::fault::Fault;
 use labels::frame_number::FrameNumber;
+use labels::kind::{Kind, UnknownKind};
 use labels::label::Label;
 use labels::reading::{read_label, write_label};
 use labels::smallest::smallest;
@@ -56,67 +59,65 @@ fn show_smallest<L: Label + Display>(rt: &HostRuntime, proposals: &[L]) -> anyho
     Ok(())
 }
 
-// Writes the labels one after another, and says whether these are the bytes that were read.
+// Writes the labels one after another, and answers the place after them.
+fn write_labels<L: Label>(labels: &[L], output: &mut [u8]) -> Result<usize, Fault> {
+    let mut place = 0;
+    for label in labels {
+        place = write_label(*label, output, place)?;
+    }
+    Ok(place)
+}
+
+// Says whether the labels, written, are the bytes that were read.
 fn write_back<L: Label>(rt: &HostRuntime, proposals: &[L], read: &[u8]) -> anyhow::Result<()> {
     let mut written = vec![in rt.alloc(); 0u8; read.len()]?;
-    let mut place = 0;
-    for label in proposals {
-        match write_label(*label, written.as_mut_slice(), place) {
-            Ok(next) => place = next,
-            Err(fault) => {
-                println!(rt; "{fault}")?;
-                return Ok(());
-            }
+    match write_labels(proposals, &mut written) {
+        Err(fault) => println!(rt; "{fault}")?,
+        Ok(size) if written.as_slice() == read => {
+            println!(rt; "written back: the same {size} bytes")?
         }
-    }
-    if written.as_slice() == read {
-        println!(rt; "written back: the same {place} bytes")?;
-    } else {
-        println!(rt; "written back: other bytes")?;
+        Ok(_) => println!(rt; "written back: other bytes")?,
     }
     Ok(())
 }
 
-// One panel, whose labels begin at a place; answers the place after them.
+// One panel, whose labels begin at a place; answers how many bytes they have.
 fn show_panel<L: Label + Display>(
     rt: &HostRuntime,
     input: &[u8],
     start: usize,
     boards: u8,
 ) -> anyhow::Result<usize> {
-    let kind = L::kind_number();
-    println!(rt; "panel of {boards} boards, labels of kind {kind}")?;
-    let end = start.saturating_add(L::byte_count().saturating_mul(boards as usize));
+    println!(rt;
+        "panel of {boards} boards, labels of kind {}",
+        L::KIND.number()
+    )?;
+    let size = L::WIDTH.saturating_mul(usize::from(boards));
     if let Some(proposals) = read_proposals::<L>(rt, input, start, boards)? {
-        show_smallest(rt, proposals.as_slice())?;
-        if start <= end && end <= input.len() {
-            write_back(rt, proposals.as_slice(), &input[start..end])?;
+        show_smallest(rt, &proposals)?;
+        if let Some(read) = input.get(start..start.saturating_add(size)) {
+            write_back(rt, &proposals, read)?;
         }
-        show_firm(rt, proposals.as_slice())?;
-        show_settling(rt, proposals.as_slice())?;
+        show_firm(rt, &proposals)?;
+        show_settling(rt, &proposals)?;
     }
-    Ok(end)
+    Ok(size)
 }
 
 // All panels of the input.
 fn show_panels(rt: &HostRuntime, input: &[u8]) -> anyhow::Result<()> {
-    let mut place = 0usize;
-    for _ in 0..input.len() {
-        let first = place.saturating_add(1);
-        let start = place.saturating_add(2);
-        if start > input.len() {
-            break;
-        }
-        let kind = input[place];
-        let boards = input[first];
-        if kind == <FrameNumber as Label>::kind_number() {
-            place = show_panel::<FrameNumber>(rt, input, start, boards)?;
-        } else if kind == <TriggerStamp as Label>::kind_number() {
-            place = show_panel::<TriggerStamp>(rt, input, start, boards)?;
-        } else {
-            println!(rt; "no labels of kind {kind}")?;
-            break;
-        }
+    let mut rest = input;
+    while let [kind, boards, labels @ ..] = rest {
+        let start = input.len().saturating_sub(labels.len());
+        let size = match Kind::try_from(*kind) {
+            Ok(Kind::Frames) => show_panel::<FrameNumber>(rt, input, start, *boards)?,
+            Ok(Kind::Stamps) => show_panel::<TriggerStamp>(rt, input, start, *boards)?,
+            Err(UnknownKind(kind)) => {
+                println!(rt; "no labels of kind {kind}")?;
+                break;
+            }
+        };
+        rest = labels.get(size..).unwrap_or(&[]);
     }
     Ok(())
 }
@@ -124,5 +125,5 @@ fn show_panels(rt: &HostRuntime, input: &[u8]) -> anyhow::Result<()> {
 fn main(rt: HostRuntime) -> anyhow::Result<()> {
     let mut input = Vec::new(rt.alloc());
     rt.stdin().take(MOST).read_to_end(&mut input)?;
-    show_panels(&rt, input.as_slice())
+    show_panels(&rt, &input)
 }

@@ -3,6 +3,7 @@ ghost use Rattle.std.specs.Prelude.{◌≡◌};
 ghost use Rattle.exchanges.specs.Plane.{Carried};
 ghost use Rattle.demo.specs.Traced.{traced_plane};
 
+use crate::rows::slot_at;
 use exchanges::backplane::Backplane;
 use labels::refusal::Refusal;
 use std::alloc::Global;
@@ -23,9 +24,9 @@ impl<B, I: Copy> Traced<B, I> {
         }
     }
 
-    // What the carry of this number answered; silence if it was not kept.
-    pub fn answer(&self, carry: usize) -> Option<I> {
-        self.answers.get(carry).copied().unwrap_or(None)
+    // What board `to` heard at the path of this number, of n boards; silence if it was not kept.
+    pub fn answer(&self, n: usize, path: usize, to: usize) -> Option<I> {
+        slot_at(&self.answers, n, path, to)
     }
 }
 

@@ -3,9 +3,11 @@ ghost use Rattle.std.specs.Prelude.{◌≡◌};
 ghost use Rattle.exchanges.specs.Asked.{PlainAsked, FirmAsked};
 ghost use Rattle.demo.specs.Watched.{watched_meaning};
 
+use crate::rows::slot_at;
 use exchanges::exchange::Exchange;
 use labels::refusal::Refusal;
 use std::alloc::Global;
+use std::iter;
 
 #[derive(Drop)]
 pub struct Watched<X, I> {
@@ -16,9 +18,8 @@ pub struct Watched<X, I> {
 
 // Adds the first slots of a list to a log, or silence where it has fewer.
 fn keep<I: Copy>(log: &mut Vec<Option<I>>, slots: &[Option<I>], count: usize) {
-    for place in 0..count {
-        let _ = log.push(slots.get(place).copied().unwrap_or(None));
-    }
+    let silence = iter::repeat(None);
+    let _ = log.extend(slots.iter().copied().chain(silence).take(count));
 }
 
 impl<X, I: Copy> Watched<X, I> {
@@ -34,15 +35,24 @@ impl<X, I: Copy> Watched<X, I> {
 
     // What board p sent in the exchange of this number, of n boards.
     pub fn sent(&self, n: usize, exchange: usize, p: usize) -> Option<I> {
-        let place = exchange.saturating_mul(n).saturating_add(p);
-        self.sent.get(place).copied().unwrap_or(None)
+        slot_at(&self.sent, n, exchange, p)
     }
 
     // What board p heard from q in the exchange of this number, of n boards.
     pub fn heard(&self, n: usize, exchange: usize, p: usize, q: usize) -> Option<I> {
         let row = exchange.saturating_mul(n).saturating_add(p);
-        let place = row.saturating_mul(n).saturating_add(q);
-        self.heard.get(place).copied().unwrap_or(None)
+        slot_at(&self.heard, n, row, q)
+    }
+}
+
+impl<I: Copy, X: Exchange<I>> Watched<X, I> {
+    // Keeps what an exchange was given and what it filled.
+    fn note(&mut self, sent: &[Option<I>], heard: &[Option<I>])
+        ensures { self.new.below ≡ self.old.below }
+    {
+        let n = usize::from(self.below.boards());
+        keep(&mut self.sent, sent, n);
+        keep(&mut self.heard, heard, n * n);
     }
 }
 
@@ -73,9 +83,7 @@ impl<I: Copy, X: Exchange<I>> Exchange<I> for Watched<X, I> {
 
     fn plain(&mut self, sent: &[Option<I>], heard: &mut [Option<I>]) -> Result<(), Refusal> {
         self.below.plain(sent, heard)?;
-        let n = usize::from(self.below.boards());
-        keep(&mut self.sent, sent, n);
-        keep(&mut self.heard, heard, n * n);
+        self.note(sent, heard);
         Ok(())
     }
 
@@ -86,9 +94,7 @@ impl<I: Copy, X: Exchange<I>> Exchange<I> for Watched<X, I> {
         work: &mut [Option<I>],
     ) -> Result<(), Refusal> {
         self.below.firm(sent, heard, work)?;
-        let n = usize::from(self.below.boards());
-        keep(&mut self.sent, sent, n);
-        keep(&mut self.heard, heard, n * n);
+        self.note(sent, heard);
         Ok(())
     }
 }

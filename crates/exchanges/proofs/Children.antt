@@ -1,11 +1,12 @@
 -- The slots of a path's children stand side by side, in rising order.
-use Rattle.std.proofs.Common.{◌≡◌, ℕ, zero, suc, ◌+◌, ◌-◌, ◌*◌, ◌<◌, ◌≤◌, Bool, cond, not, List, ◌∷◌, map, length, get_or, take, drop, set, None, count_by, filter, Option, sym, refl, ap, ◌∙◌, inl, inr, suc-mul, mul-le-mul, arith}
-use Rattle.std.specs.List.{range_with_len}
+use Rattle.std.proofs.Common.{◌≡◌, ℕ, zero, suc, ◌+◌, ◌-◌, ◌*◌, ◌<◌, ◌≤◌, Bool, false, cond, not, List, [], ◌∷◌, map, length, get_or, take, drop, set, None, count_by, filter, Option, sym, refl, ap, ◌∙◌, inl, inr, suc-mul, mul-le-mul, arith}
+use Rattle.std.specs.List.{range_with_len, AllByRecursion}
 use Rattle.std.proofs.lemmas.List.{ext_get_or, length-take, length-drop, length-map, get_or-take, get_or-drop, get_or-map}
 use Rattle.std.proofs.lemmas.Bool.{cases_Bool, cond-true, cond-false}
+use Rattle.exchanges.specs.declared.path.Path.{Path}
 use Rattle.exchanges.specs.Trees.{IsPath, on, others, lower, rank, start, paths_of, tree_size, place, picked}
-use Rattle.exchanges.specs.Slots.{trail, slot, settle, Room}
-use Rattle.exchanges.specs.Counts.{length_others, count_last}
+use Rattle.exchanges.specs.Slots.{trail, slot, settle}
+use Rattle.exchanges.specs.Counts.{length_others, all_others, count_last}
 use Rattle.exchanges.specs.Ranks.{off_below, rank_below}
 use Rattle.exchanges.proofs.Slots.{start_mono, all_small}
 use Rattle.exchanges.proofs.Trail.{length_trail}
@@ -25,6 +26,26 @@ kept_index f a (suc m) (suc j) d l =
 pub other_index : (n : ℕ) (α : List ℕ) (j : ℕ) → IsPath n α → j < length (others n α) → get_or (others n α) j 0 - lower (get_or (others n α) j 0) α ≡ j
 other_index n α j path l =
     omega (arith, kept_index (λ q. not (on q α)) 0 n j 0 l, off_below (get_or (others n α) j 0) n α path)
+
+all_at : (P : ℕ → Type 0) (xs : List ℕ) (i d : ℕ) → AllByRecursion P xs → i < length xs → P (get_or xs i d)
+all_at P [] i d a l = absurd (omega arith)
+all_at P (x ∷ xs) zero d a l = a.0
+all_at P (x ∷ xs) (suc i) d a l = all_at P xs i d a.1 (omega arith)
+
+-- q is the board at place i among those off the path
+pub record Other (n : ℕ) (α : List ℕ) (i q : ℕ) : Type 0 where
+  pub board : q < n
+  pub off : on q α ≡ false
+  pub next : q - lower q α ≡ i
+
+pub other_in : (n : ℕ) (α : List ℕ) (i q : ℕ) → IsPath n α → i < length (others n α) → q ≡ get_or (others n α) i 0 → Other n α i q
+other_in n α i q path l e =
+    let (below, off) = all_at (λ q. (q < n) × (on q α ≡ false)) (others n α) i 0 (all_others n α) l in
+    record {
+      board = omega arith;
+      off = ap (λ (x : ℕ). on x α) e ∙ off;
+      next = ap (λ (x : ℕ). x - lower x α) e ∙ other_index n α i path l;
+    }
 
 -- where the slots of a path's children begin
 abbrev children_at : ℕ → ℕ → ℕ → List ℕ → ℕ
@@ -52,22 +73,37 @@ module _ (n t size p : ℕ) (α : List ℕ) (sized : size ≡ tree_size n t) (lp
       (λ j l. let jn : j < n - k = omega arith in let at : children_at n size p α + j ≡ slot n size p (get_or (others n α) j 0 ∷ α) = omega (arith, other_index n α j path (omega arith), ap (start n) k1) in
       get_or-take (n - k) (drop (children_at n size p α) ws) j None jn ∙ get_or-drop (children_at n size p α) ws j None ∙ ap (λ (i : ℕ). get_or ws i None) at ∙ sym (get_or-map f (others n α) j 0 None (omega arith)))
 
--- the same for a path held in the first entries of a list
-module _ (n t size owns slots p : ℕ) (bs : List ℕ) (k kr ch : ℕ) (room : Room n t size owns slots) (lp : p < n) (path : IsPath n (trail bs k)) (one : 1 ≤ k) (short : k ≤ t) (k_is : kr ≡ k) (ch_is : ch ≡ start n (k + 1) + rank n (trail bs k) * (n - k)) where
-  at_is : p * size + ch ≡ children_at n size p (trail bs k)
-  at_is = ap (λ (x : ℕ). p * size + x) (ch_is ∙ ap (λ (m : ℕ). start n (m + 1) + rank n (trail bs k) * (n - m)) (sym (length_trail bs k)))
+-- the same for a path of the code
+module _ (path : Path) (slots p kr ch : ℕ) (holds : path.shape.n * path.shape.size ≤ slots) (lp : p < path.shape.n) (one : 1 ≤ path.len) (short : path.len ≤ path.shape.t) (k_is : kr ≡ path.len) (ch_is : ch ≡ start path.shape.n (path.len + 1) + rank path.shape.n (trail path.boards path.len) * (path.shape.n - path.len)) where
+  abbrev n : ℕ
+  n = path.shape.n
 
-  width_is : n - kr ≡ n - length (trail bs k)
-  width_is = ap (λ (m : ℕ). n - m) (k_is ∙ sym (length_trail bs k))
+  abbrev t : ℕ
+  t = path.shape.t
+
+  abbrev size : ℕ
+  size = path.shape.size
+
+  abbrev α : List ℕ
+  α = trail path.boards path.len
+
+  long : length α ≡ path.len
+  long = length_trail path.boards path.len
+
+  at_is : p * size + ch ≡ children_at n size p α
+  at_is = ap (λ (x : ℕ). p * size + x) (ch_is ∙ ap (λ (m : ℕ). start n (m + 1) + rank n α * (n - m)) (sym long))
+
+  width_is : n - kr ≡ n - length α
+  width_is = ap (λ (m : ℕ). n - m) (k_is ∙ sym long)
 
   pub children_in : (p * size + ch + (n - kr) ≤ slots) × (p * size + ch < 1814)
   children_in =
-      let below = children_below n t size p (trail bs k) room.sized lp path (omega (arith, length_trail bs k)) (omega (arith, length_trail bs k)) in
-      let small = all_small n t room.few room.low in
-      let same = ap (λ (x : ℕ). n * x) room.sized in
-      (omega (arith, at_is, width_is, room.holds), omega (arith, at_is))
+      let below = children_below n t size p α path.shape.sized lp path.differ (omega (arith, long)) (omega (arith, long)) in
+      let small = all_small n t path.shape.few path.shape.fewer in
+      let same = ap (λ (x : ℕ). n * x) path.shape.sized in
+      (omega (arith, at_is, width_is), omega (arith, at_is))
 
-  pub reduced_is : {I : Type 0} (same : I → I → Bool) (ws : List (Option I)) (at : ℕ) (item : Option I) → length ws ≡ slots → at ≡ place n (trail bs k) → item ≡ picked same (n - kr - t) (take (n - kr) (drop (p * size + ch) ws)) (take (n - kr) (drop (p * size + ch) ws)) → set ws (p * size + at) item ≡ settle same n t size ws (record { board = p; path = trail bs k })
+  pub reduced_is : {I : Type 0} (same : I → I → Bool) (ws : List (Option I)) (at : ℕ) (item : Option I) → length ws ≡ slots → at ≡ place n α → item ≡ picked same (n - kr - t) (take (n - kr) (drop (p * size + ch) ws)) (take (n - kr) (drop (p * size + ch) ws)) → set ws (p * size + at) item ≡ settle same n t size ws (record { board = p; path = α })
   reduced_is {I} same ws at item l e d =
-      let part : take (n - kr) (drop (p * size + ch) ws) ≡ map (λ q. get_or ws (slot n size p (q ∷ trail bs k)) None) (others n (trail bs k)) = ap (λ (m : ℕ). take m (drop (p * size + ch) ws)) width_is ∙ ap (λ (i : ℕ). take (n - length (trail bs k)) (drop i ws)) at_is ∙ children_are n t size p (trail bs k) room.sized lp path (omega (arith, length_trail bs k)) (omega (arith, length_trail bs k)) ws (omega (arith, room.holds)) in
-      ap (λ (i : ℕ). set ws (p * size + i) item) e ∙ ap (set ws (slot n size p (trail bs k))) (d ∙ ap (λ (m : ℕ). picked same (m - t) (take (n - kr) (drop (p * size + ch) ws)) (take (n - kr) (drop (p * size + ch) ws))) width_is ∙ ap (λ (l : List (Option I)). picked same (n - length (trail bs k) - t) l l) part)
+      let part : take (n - kr) (drop (p * size + ch) ws) ≡ map (λ q. get_or ws (slot n size p (q ∷ α)) None) (others n α) = ap (λ (m : ℕ). take m (drop (p * size + ch) ws)) width_is ∙ ap (λ (i : ℕ). take (n - length α) (drop i ws)) at_is ∙ children_are n t size p α path.shape.sized lp path.differ (omega (arith, long)) (omega (arith, long)) ws (omega arith) in
+      ap (λ (i : ℕ). set ws (p * size + i) item) e ∙ ap (set ws (slot n size p α)) (d ∙ ap (λ (m : ℕ). picked same (m - t) (take (n - kr) (drop (p * size + ch) ws)) (take (n - kr) (drop (p * size + ch) ws))) width_is ∙ ap (λ (l : List (Option I)). picked same (n - length α - t) l l) part)

@@ -28,6 +28,6 @@ long_heard n s h e =
     ltb-false _ _ parts.1
 
 -- no refusal is due, by what calls answered: n boards, z for short memory, round q
-pub none_due : (n m t q r k : ℕ) (sh : ℕ → Bool) (z : Bool) → n ≡ m → z ≡ sh n → q ≡ r → None ≡ due n t z q k → due m t (sh m) r k ≡ None
+pub none_due : (n m t q r k : ℕ) (sh : ℕ → Bool) (z : Bool) → n ≡ m → z ≡ sh n → q ≡ r → due n t z q k ≡ None → due m t (sh m) r k ≡ None
 none_due n m t q r k sh z en ez er e =
-    sym (e ∙ (λ i. due (en i) t ((ez ∙ ap sh en) i) (er i) k))
+    sym (λ i. due (en i) t ((ez ∙ ap sh en) i) (er i) k) ∙ e

@@ -1,33 +1,56 @@
 -- What each board heard, read off the trees.
-use Rattle.std.proofs.Common.{◌≡◌, ℕ, zero, suc, ◌+◌, ◌-◌, ◌*◌, ◌/◌, ◌%◌, ◌<◌, ◌≤◌, Bool, List, [], ◌∷◌, ◌++◌, map, length, get_or, drop, set, None, Option, sym, refl, ap, ◌∙◌, zero-mul, arith}
+use Rattle.std.proofs.Common.{◌≡◌, ℕ, zero, suc, ◌+◌, ◌-◌, ◌*◌, ◌/◌, ◌%◌, ◌<◌, ◌≤◌, Bool, List, [], ◌∷◌, ◌++◌, map, length, get_or, take, drop, None, Option, sym, refl, ap, ◌∙◌, zero-mul, suc-mul, mul-le-mul, add-one, arith}
+use borrow.Rule.Slice.PartMut.{put_mid}
 use Rattle.std.specs.List.{range_with_len}
-use Rattle.std.proofs.lemmas.List.{set_at, drop_more, append_assoc}
-use Rattle.std.proofs.lemmas.List.FromFn.{map-range_with_len_more, length-map-range_with_len}
-use Rattle.std.proofs.lemmas.Nat.{div_below, mod_below}
-use Rattle.exchanges.specs.Trees.{Trees, grid, reduced, tree_size, workspace}
-use Rattle.exchanges.specs.Slots.{Room, Stands, reduced_down}
+use Rattle.std.proofs.lemmas.List.{append_assoc, drop-drop, drop_at, take_at, ext_get_or, length-take, length-drop, get_or-take, get_or-drop, map-append}
+use Rattle.std.proofs.lemmas.List.FromFn.{length-map-range_with_len, get_or-map-range_with_len}
+use Rattle.std.proofs.lemmas.Nat.{div_below, mod_below, div-mul-add, mod-mul-add}
+use Rattle.exchanges.specs.declared.path.Shape.{Shape}
+use Rattle.exchanges.specs.Trees.{Trees, start, grid, reduced, tree_size, workspace}
+use Rattle.exchanges.specs.Slots.{Stands, reduced_down}
 use Rattle.exchanges.specs.Counts.{all_counting, map_same}
 use Rattle.exchanges.specs.Ranks.{place_single}
-use Rattle.exchanges.proofs.Slots.{slot_below, all_small}
+use Rattle.exchanges.proofs.Slots.{start_mono}
 use Rattle.exchanges.proofs.Settle.{all_reduced, beyond_kept}
-use Rattle.exchanges.proofs.Spread.{workspace_is}
+use Rattle.exchanges.proofs.Spread.{counting_append, workspace_is}
 
 some_boards : (n k : ℕ) → k < n * n → 0 < n
 some_boards zero k l = absurd (omega (arith, zero-mul 0))
 some_boards (suc n) k l = omega arith
 
-pub cell_in : (n t size owns slots k : ℕ) → Room n t size owns slots → k < n * n → (k / n * size + k % n < slots) × (k / n * size + k % n < 1813)
-cell_in n t size owns slots k room l =
-    let pos = some_boards n k l in
-    let below = slot_below n t size (k / n) (k % n ∷ []) room.sized (div_below k n n pos l) (mod_below k n pos, refl, tt) (omega arith) (omega arith) in
-    let small = all_small n t room.few room.low in
-    let same = ap (λ (x : ℕ). n * x) room.sized in
-    let at = place_single n (k % n) in
-    (omega (arith, room.holds), omega arith)
+-- the first k places of one of n rows of w places
+pub row_below : (n w p k slots : ℕ) → n * w ≤ slots → p < n → k ≤ w → p * w + k ≤ slots
+row_below n w p k slots holds l few = omega (arith, suc-mul p w, mul-le-mul {n₁ = suc p} {m₁ = w} {n₂ = n} {m₂ = w} l (omega arith))
 
-pub heard_more : {I : Type 0} (f : ℕ → Option I) (xs entry : List (Option I)) (k : ℕ) (v : Option I) → k < length entry → xs ≡ map f (range_with_len 0 k) ++ drop k entry → v ≡ f k → set xs k v ≡ map f (range_with_len 0 (k + 1)) ++ drop (k + 1) entry
-heard_more {I} f xs entry k v l e d =
-    ap (λ (x : List (Option I)). set x k v) (e ∙ ap (λ (x : List (Option I)). map f (range_with_len 0 k) ++ x) (drop_more entry k None l)) ∙ set_at (map f (range_with_len 0 k)) (get_or entry k None) (drop (k + 1) entry) v k (length-map-range_with_len f 0 k) ∙ ap (λ (x : Option I). map f (range_with_len 0 k) ++ (x ∷ drop (k + 1) entry)) d ∙ sym (ap (λ (x : List (Option I)). x ++ drop (k + 1) entry) (map-range_with_len_more f 0 k k (omega arith)) ∙ append_assoc (map f (range_with_len 0 k)) (f k ∷ []) (drop (k + 1) entry))
+-- the slots of the paths of one board stand first in a board's tree
+pub row_in : (s : Shape) (slots p : ℕ) → s.n * s.size ≤ slots → p < s.n → p * s.size + s.n ≤ slots
+row_in s slots p holds l =
+    let e : 2 + s.t ≡ s.t + 2 = omega arith in
+    row_below s.n s.size p s.n slots holds l (omega (arith, s.sized, start_mono s.n 2 s.t, ap (start s.n) e, place_single s.n 0))
+
+module _ {I : Type 0} (n size : ℕ) (ws : List (Option I)) where
+  abbrev pub cell : ℕ → Option I
+  cell k = get_or ws (k / n * size + k % n) None
+
+  row_is : (p : ℕ) → p * size + n ≤ length ws → take n (drop (p * size) ws) ≡ map cell (range_with_len (p * n) n)
+  row_is p l =
+      let long : length (take n (drop (p * size) ws)) ≡ n = omega (arith, length-take n (drop (p * size) ws), length-drop (p * size) ws) in
+      ext_get_or None (take n (drop (p * size) ws)) (map cell (range_with_len (p * n) n)) (long ∙ sym (length-map-range_with_len cell (p * n) n)) (λ j lj.
+      let lj' : j < n = omega arith in
+      get_or-take n (drop (p * size) ws) j None lj' ∙ get_or-drop (p * size) ws j None ∙ sym (get_or-map-range_with_len cell (p * n) n j (p * n + j) None lj' refl ∙ ap (λ (x : ℕ). get_or ws (x * size + (p * n + j) % n) None) (div-mul-add p n j lj') ∙ ap (λ (x : ℕ). get_or ws (p * size + x) None) (mod-mul-add p n j lj')))
+
+  -- one row more
+  pub heard_more : (p k : ℕ) (xs row entry : List (Option I)) → p * size + n ≤ length ws → p * n + n ≤ length entry → xs ≡ map cell (range_with_len 0 (p * n)) ++ drop (p * n) entry → row ≡ take n (drop (p * size) ws) → k ≡ n → put_mid (p * n) k xs row ≡ map cell (range_with_len 0 ((p + 1) * n)) ++ drop ((p + 1) * n) entry
+  heard_more p k xs row entry within room was is e =
+      let a = p * n in
+      let front = map cell (range_with_len 0 a) in
+      let here = map cell (range_with_len a n) in
+      let long : length front ≡ a = length-map-range_with_len cell 0 a in
+      let next : (p + 1) * n ≡ a + n = ap (λ (x : ℕ). x * n) (add-one p) ∙ omega (arith, suc-mul p n) in
+      let at : 0 + a ≡ a = omega arith in
+      let rest : drop k (drop a xs) ≡ drop (a + n) entry = ap (λ (l : List (Option I)). drop k (drop a l)) was ∙ ap (drop k) (drop_at front (drop a entry) a long) ∙ drop-drop k a entry ∙ ap (λ (x : ℕ). drop (a + x) entry) e in
+      let both : front ++ here ≡ map cell (range_with_len 0 (a + n)) = ap (λ (x : ℕ). front ++ map cell (range_with_len x n)) (sym at) ∙ sym (map-append cell (range_with_len 0 a) (range_with_len (0 + a) n)) ∙ ap (map cell) (sym (counting_append 0 a n)) in
+      ap (λ (l : List (Option I)). l ++ (row ++ drop k (drop a xs))) (ap (take a) was ∙ take_at front (drop a entry) a long) ∙ ap (λ (l : List (Option I)). front ++ (row ++ l)) rest ∙ ap (λ (l : List (Option I)). front ++ (l ++ drop (a + n) entry)) (is ∙ row_is p within) ∙ sym (append_assoc front here (drop (a + n) entry)) ∙ ap (λ (l : List (Option I)). l ++ drop (a + n) entry) both ∙ ap (λ (x : ℕ). map cell (range_with_len 0 x) ++ drop x entry) (sym next)
 
 pub grid_reduced : {I : Type 0} (same : I → I → Bool) (n t size : ℕ) (sized : size ≡ tree_size n t) (own ws ws₂ : List (Option I)) (T : Trees I) → Stands n t size own ws T → n * size ≤ length ws → ws₂ ≡ reduced_down same n t size ws t → grid n (λ p q. get_or ws₂ (p * size + q) None) ≡ grid n (λ p q. reduced same n t T t p (q ∷ []))
 grid_reduced {I} same n t size sized own ws ws₂ T st room e =

@@ -6,7 +6,6 @@ pub mod Slots
 pub mod Orders
 pub mod Alike
 pub mod Stand
-pub mod Picking
 pub mod Children
 pub mod Settle
 pub mod Heard

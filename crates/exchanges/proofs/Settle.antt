@@ -1,15 +1,14 @@
 -- The reduction in place leaves in every slot what the path is reduced to.
 use Rattle.std.proofs.Common.{◌≡◌, ℕ, zero, suc, ◌+◌, ◌-◌, ◌*◌, ◌<◌, ◌≤◌, Bool, false, List, [], ◌∷◌, map, length, get_or, drop, set, None, fold, Option, sym, refl, ap, ◌∙◌, subst, inl, inr, arith, length-set}
-use Rattle.std.specs.List.{range_with_len, flat_map, AllByRecursion}
-use Rattle.std.proofs.lemmas.List.{append-nil, drop-set-lt}
+use Rattle.std.specs.List.{range_with_len, AllByRecursion}
+use Rattle.std.proofs.lemmas.List.{drop-set-lt}
 use Rattle.std.proofs.ByRecursion.{All-weaker, All-map}
 use Rattle.std.proofs.lemmas.Bool.{cases_eq}
 use Rattle.exchanges.specs.Trees.{IsPath, Trees, put, reduce, reduced, on, others, level, tree_size}
-use Rattle.exchanges.specs.Slots.{slot, Stands, Spot, spots_on, spots_under, settle, reduced_down}
+use Rattle.exchanges.specs.Slots.{slot, Stands, Spot, spots_on, spots, settle, reduced_down}
 use Rattle.exchanges.specs.Counts.{all_of, all_others, all_counting, map_same}
 use Rattle.exchanges.specs.Ranks.{all_paths, all_joined_at}
 use Rattle.exchanges.specs.Members.{In, in_joined, in_map, in_counting, in_level}
-use Rattle.exchanges.proofs.Orders.{under, under_level, joined_same, joined_joined}
 use Rattle.exchanges.specs.Fill.{put_same, put_cases}
 use Rattle.exchanges.proofs.Slots.{slot_below}
 use Rattle.exchanges.proofs.Stand.{stands_put}
@@ -21,24 +20,17 @@ settle_trees same n t T s = put T s.board s.path (reduce same n t (length s.path
 -- the first j levels reduced
 abbrev down_trees : {I : Type 0} → (I → I → Bool) → ℕ → ℕ → Trees I → ℕ → Trees I
 down_trees same n t T zero = T
-down_trees same n t T (suc j) = fold (settle_trees same n t) (down_trees same n t T j) (spots_under n [] (t - j))
-
-spots_are : (n m : ℕ) (α : List ℕ) → spots_under n α m ≡ flat_map (spots_on n) (under n α m)
-spots_are n zero α = sym (append-nil (spots_on n α))
-spots_are n (suc m) α = joined_same (λ q. spots_under n (q ∷ α) m) (λ q. flat_map (spots_on n) (under n (q ∷ α) m)) (others n α) (λ q. spots_are n m (q ∷ α)) ∙ sym (joined_joined (spots_on n) (λ q. under n (q ∷ α) m) (others n α))
-
-spots_level : (n k : ℕ) → spots_under n [] k ≡ flat_map (spots_on n) (level n k)
-spots_level n k = spots_are n k [] ∙ ap (flat_map (spots_on n)) (under_level n k)
+down_trees same n t T (suc j) = fold (settle_trees same n t) (down_trees same n t T j) (spots n (t - j))
 
 -- a path of length k of a board
 abbrev At : ℕ → ℕ → Spot → Type 0
 At n k s = (s.board < n) × IsPath n s.path × (length s.path ≡ k)
 
-all_spots : (n k : ℕ) → AllByRecursion (At n k) (spots_under n [] k)
-all_spots n k = subst (λ (l : List Spot). AllByRecursion (At n k) l) (sym (spots_level n k)) (all_joined_at (At n k) (spots_on n) (level n k) (All-weaker (λ α. IsPath n α × (length α ≡ k)) _ (λ α h. All-map (At n k) (λ p. record { board = p; path = α }) (range_with_len 0 n) (all_counting (λ p. At n k (record { board = p; path = α })) 0 n (λ p u v. (omega arith, h.0, h.1)))) (level n k) (all_paths n k)))
+all_spots : (n k : ℕ) → AllByRecursion (At n k) (spots n k)
+all_spots n k = all_joined_at (At n k) (spots_on n) (level n k) (All-weaker (λ α. IsPath n α × (length α ≡ k)) _ (λ α h. All-map (At n k) (λ p. record { board = p; path = α }) (range_with_len 0 n) (all_counting (λ p. At n k (record { board = p; path = α })) 0 n (λ p u v. (omega arith, h.0, h.1)))) (level n k) (all_paths n k))
 
-in_spots : (n p : ℕ) (β : List ℕ) → p < n → IsPath n β → In (record { board = p; path = β }) (spots_under n [] (length β))
-in_spots n p β lp path = subst (λ (l : List Spot). In (record { board = p; path = β }) l) (sym (spots_level n (length β))) (in_joined (spots_on n) (record { board = p; path = β }) β (level n (length β)) (in_level n β path) (in_map (λ x. record { board = x; path = β }) p (range_with_len 0 n) (in_counting p 0 n (omega arith) (omega arith))))
+in_spots : (n p : ℕ) (β : List ℕ) → p < n → IsPath n β → In (record { board = p; path = β }) (spots n (length β))
+in_spots n p β lp path = in_joined (spots_on n) (record { board = p; path = β }) β (level n (length β)) (in_level n β path) (in_map (λ x. record { board = x; path = β }) p (range_with_len 0 n) (in_counting p 0 n (omega arith) (omega arith)))
 
 module _ {I : Type 0} (same : I → I → Bool) (n t : ℕ) where
   -- what a path gets from what the children hold in given trees
@@ -85,7 +77,7 @@ module _ {I : Type 0} (same : I → I → Bool) (n t : ℕ) where
   down_is T (suc j) lj p β lp path one l =
       let D = down_trees same n t T j in
       let ih = down_is T j (omega arith) p β lp path one l in
-      elim (cases_eq (length β) (t - j)) [ inl e ↦ (λ h. absurd (omega arith), λ h. let made = spot_made (t - j) D (spots_under n [] (t - j)) (all_spots n (t - j)) (record { board = p; path = β }) (subst (λ (m : ℕ). In (record { board = p; path = β }) (spots_under n [] m)) e (in_spots n p β lp path)) in let deep : t + 1 - length β ≡ suc (t - length β) = omega arith in let low : t + 1 - suc (length β) ≡ t - length β = omega arith in made ∙ ap (reduce same n t (length β)) (map_same _ _ (others n β) (All-weaker (λ q. (q < n) × (on q β ≡ false)) _ (λ q g. (down_is T j (omega arith) p (q ∷ β) lp (g.0, g.1, path) (omega arith) (omega arith)).1 (omega arith) ∙ ap (λ (m : ℕ). reduced same n t T m p (q ∷ β)) low) (others n β) (all_others n β))) ∙ sym (ap (λ (m : ℕ). reduced same n t T m p β) deep)) | inr d ↦ (let kept = level_kept (t - j) D (spots_under n [] (t - j)) (all_spots n (t - j)) p β d in (λ h. kept ∙ ih.0 (omega arith), λ h. kept ∙ ih.1 (omega arith))) ]
+      elim (cases_eq (length β) (t - j)) [ inl e ↦ (λ h. absurd (omega arith), λ h. let made = spot_made (t - j) D (spots n (t - j)) (all_spots n (t - j)) (record { board = p; path = β }) (subst (λ (m : ℕ). In (record { board = p; path = β }) (spots n m)) e (in_spots n p β lp path)) in let deep : t + 1 - length β ≡ suc (t - length β) = omega arith in let low : t + 1 - suc (length β) ≡ t - length β = omega arith in made ∙ ap (reduce same n t (length β)) (map_same _ _ (others n β) (All-weaker (λ q. (q < n) × (on q β ≡ false)) _ (λ q g. (down_is T j (omega arith) p (q ∷ β) lp (g.0, g.1, path) (omega arith) (omega arith)).1 (omega arith) ∙ ap (λ (m : ℕ). reduced same n t T m p (q ∷ β)) low) (others n β) (all_others n β))) ∙ sym (ap (λ (m : ℕ). reduced same n t T m p β) deep)) | inr d ↦ (let kept = level_kept (t - j) D (spots n (t - j)) (all_spots n (t - j)) p β d in (λ h. kept ∙ ih.0 (omega arith), λ h. kept ∙ ih.1 (omega arith))) ]
 
   module _ (size : ℕ) (sized : size ≡ tree_size n t) (own : List (Option I)) where
     -- the slots follow the trees
@@ -114,7 +106,7 @@ module _ {I : Type 0} (same : I → I → Bool) (n t : ℕ) where
     down_stands : (rest ws : List (Option I)) (T : Trees I) (j : ℕ) → j ≤ t → Lies rest ws T → Lies rest (reduced_down same n t size ws j) (down_trees same n t T j)
     down_stands rest ws T zero lj st = st
     down_stands rest ws T (suc j) lj st =
-        level_stands rest (reduced_down same n t size ws j) (down_trees same n t T j) (spots_under n [] (t - j)) (t - j) (all_spots n (t - j)) (omega arith) (omega arith) (down_stands rest ws T j (omega arith) st)
+        level_stands rest (reduced_down same n t size ws j) (down_trees same n t T j) (spots n (t - j)) (t - j) (all_spots n (t - j)) (omega arith) (omega arith) (down_stands rest ws T j (omega arith) st)
 
     -- at the end each slot holds what its path is reduced to, the leaves what was heard
     pub all_reduced : (ws : List (Option I)) (T : Trees I) → Stands n t size own ws T → n * size ≤ length ws → (p : ℕ) (β : List ℕ) → p < n → IsPath n β → 1 ≤ length β → length β ≤ t + 1 → get_or (reduced_down same n t size ws t) (slot n size p β) None ≡ reduced same n t T (t + 1 - length β) p β

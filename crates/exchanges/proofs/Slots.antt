@@ -4,10 +4,11 @@ use Rattle.std.proofs.lemmas.Nat.{mul-add-lt}
 use Rattle.std.proofs.lemmas.List.{get_or-set_same, get_or-set_other}
 use Rattle.std.proofs.lemmas.List.Sums.{fold_push}
 use Rattle.std.proofs.lemmas.List.FromFn.{map-range_with_len_more}
+use Rattle.exchanges.specs.declared.path.Path.{Path}
 use Rattle.exchanges.specs.Boards.{most_boards}
 use Rattle.exchanges.specs.Plane.{Plane, carry, after}
 use Rattle.exchanges.specs.Trees.{IsPath, Hop, place, start, tree_size}
-use Rattle.exchanges.specs.Slots.{trail, slot, held, Work, carried, hops_from, Room, Worked}
+use Rattle.exchanges.specs.Slots.{trail, slot, held, Work, carried, hops_from, Worked}
 use Rattle.exchanges.specs.Ranks.{rank_below}
 use Rattle.exchanges.proofs.Trail.{length_trail}
 use Rattle.exchanges.proofs.Table.{passes, passed}
@@ -60,10 +61,14 @@ held_at n size own ws q (a ∷ α) l = refl
 pub all_small : (n t : ℕ) → n ≤ most_boards → 3 * t < n → n * tree_size n t ≤ 1813
 all_small n t ln lt = leb-true _ _ (passed (λ j. leb (n * tree_size n j) 1813) 3 t (passed (λ m. passes (λ j. leb (m * tree_size m j) 1813) 3) 8 n refl (omega arith)) (omega arith))
 
--- the place of a slot is below the length, and small
-pub slot_in : (n t size owns slots p at : ℕ) (bs : List ℕ) (k : ℕ) → Room n t size owns slots → p < n → IsPath n (trail bs k) → 1 ≤ k → k ≤ t + 1 → at ≡ place n (trail bs k) → (p * size + at < slots) × (p * size + at < 1813)
-slot_in n t size owns slots p at bs k room lp path one l e =
-    let below = slot_below n t size p (trail bs k) room.sized lp path (omega (arith, length_trail bs k)) (omega (arith, length_trail bs k)) in
-    let small = all_small n t room.few room.low in
-    let same = ap (λ (x : ℕ). n * x) room.sized in
-    (omega (arith, room.holds), omega arith)
+-- the place of a path's slot is below the length, and small
+pub slot_in : (path : Path) (slots p at : ℕ) → path.shape.n * path.shape.size ≤ slots → p < path.shape.n → 1 ≤ path.len → at ≡ place path.shape.n (trail path.boards path.len) → (p * path.shape.size + at < slots) × (p * path.shape.size + at < 1813)
+slot_in path slots p at holds lp some e =
+    let n = path.shape.n in
+    let t = path.shape.t in
+    let size = path.shape.size in
+    let long = length_trail path.boards path.len in
+    let below = slot_below n t size p (trail path.boards path.len) path.shape.sized lp path.differ (omega (arith, long)) (omega (arith, long, path.short)) in
+    let small = all_small n t path.shape.few path.shape.fewer in
+    let same = ap (λ (x : ℕ). n * x) path.shape.sized in
+    (omega arith, omega arith)

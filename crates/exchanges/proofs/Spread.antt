@@ -9,10 +9,10 @@ use Rattle.exchanges.specs.Trees.{IsPath, Trees, others, level, rank, place, sta
 use Rattle.exchanges.specs.Slots.{slot}
 use Rattle.exchanges.specs.Counts.{length_others, all_counting, map_same}
 use Rattle.exchanges.specs.Ranks.{all_paths, all_joined_at}
-use Rattle.exchanges.proofs.Orders.{joined_append, joined_alike}
+use Rattle.exchanges.proofs.Orders.{joined_append, joined_alike, joined_map}
 use Rattle.exchanges.proofs.Children.{other_index}
 
-counting_append : (a m k : ℕ) → range_with_len a (m + k) ≡ range_with_len a m ++ range_with_len (a + m) k
+pub counting_append : (a m k : ℕ) → range_with_len a (m + k) ≡ range_with_len a m ++ range_with_len (a + m) k
 counting_append a zero k = let z : 0 + k ≡ k = omega arith in let b : a + 0 ≡ a = omega arith in ap (range_with_len a) z ∙ ap (λ (x : ℕ). range_with_len x k) (sym b)
 counting_append a (suc m) k =
     let s : suc m + k ≡ suc (m + k) = omega arith in
@@ -37,10 +37,6 @@ blocks m a (suc k) =
 map_joined : {X Y Z : Type 0} (f : X → Y) (g : Z → List X) (zs : List Z) → map f (flat_map g zs) ≡ flat_map (λ z. map f (g z)) zs
 map_joined f g [] = refl
 map_joined f g (z ∷ zs) = map-append f (g z) (flat_map g zs) ∙ ap (λ l. map f (g z) ++ l) (map_joined f g zs)
-
-joined_map : {X Y Z : Type 0} (f : Y → List X) (g : Z → Y) (zs : List Z) → flat_map f (map g zs) ≡ flat_map (λ z. f (g z)) zs
-joined_map f g [] = refl
-joined_map f g (z ∷ zs) = ap (λ l. f (g z) ++ l) (joined_map f g zs)
 
 abbrev children : ℕ → List ℕ → List (List ℕ)
 children n α = map (λ q. q ∷ α) (others n α)

@@ -15,12 +15,12 @@ passed f (suc m) i e l = let parts = and_parts (passes f m) (f m) e in elim (cas
 
 -- the table of the code
 abbrev levels : List (List ℕ)
-levels = (0 ∷ 1 ∷ 1 ∷ []) ∷ (0 ∷ 2 ∷ 4 ∷ []) ∷ (0 ∷ 3 ∷ 9 ∷ []) ∷ (0 ∷ 4 ∷ 16 ∷ []) ∷ (0 ∷ 5 ∷ 25 ∷ []) ∷ (0 ∷ 6 ∷ 36 ∷ []) ∷ (0 ∷ 7 ∷ 49 ∷ []) ∷ []
+levels = (0 ∷ 1 ∷ 1 ∷ 1 ∷ []) ∷ (0 ∷ 2 ∷ 4 ∷ 4 ∷ []) ∷ (0 ∷ 3 ∷ 9 ∷ 15 ∷ []) ∷ (0 ∷ 4 ∷ 16 ∷ 40 ∷ []) ∷ (0 ∷ 5 ∷ 25 ∷ 85 ∷ []) ∷ (0 ∷ 6 ∷ 36 ∷ 156 ∷ []) ∷ (0 ∷ 7 ∷ 49 ∷ 259 ∷ []) ∷ []
 
-pub level_rule : (n k : ℕ) → 1 ≤ n → n ≤ most_boards → 1 ≤ k → k ≤ 3 → get_or (get_or levels (n - 1) []) (k - 1) 0 ≡ start n k
+pub level_rule : (n k : ℕ) → 1 ≤ n → n ≤ most_boards → 1 ≤ k → k ≤ 4 → get_or (get_or levels (n - 1) []) (k - 1) 0 ≡ start n k
 level_rule n k pos ln one lk =
     let right : ℕ → ℕ → Bool = λ m j. eqb (get_or (get_or levels m []) j 0) (start (suc m) (suc j)) in
-    let entry = passed (right (n - 1)) 3 (k - 1) (passed (λ m. passes (right m) 3) most_boards (n - 1) refl (omega arith)) (omega arith) in
+    let entry = passed (right (n - 1)) 4 (k - 1) (passed (λ m. passes (right m) 4) most_boards (n - 1) refl (omega arith)) (omega arith) in
     let row_is : suc (n - 1) ≡ n = omega arith in
     let is : suc (k - 1) ≡ k = omega arith in
     eqb-true _ _ entry ∙ ap (λ (m : ℕ). start m (suc (k - 1))) row_is ∙ ap (start n) is
@@ -28,5 +28,5 @@ level_rule n k pos ln one lk =
 pub paths_small : (n k : ℕ) → n ≤ most_boards → k ≤ 3 → paths_of n k ≤ 210
 paths_small n k ln lk = leb-true _ _ (passed (λ j. leb (paths_of n j) 210) 4 k (passed (λ m. passes (λ j. leb (paths_of m j) 210) 4) 8 n refl (omega arith)) (omega arith))
 
-pub start_small : (n k : ℕ) → n ≤ most_boards → k ≤ 3 → start n k ≤ 49
-start_small n k ln lk = leb-true _ _ (passed (λ j. leb (start n j) 49) 4 k (passed (λ m. passes (λ j. leb (start m j) 49) 4) 8 n refl (omega arith)) (omega arith))
+pub start_small : (n k : ℕ) → n ≤ most_boards → k ≤ 4 → start n k ≤ 259
+start_small n k ln lk = leb-true _ _ (passed (λ j. leb (start n j) 259) 5 k (passed (λ m. passes (λ j. leb (start m j) 259) 5) 8 n refl (omega arith)) (omega arith))

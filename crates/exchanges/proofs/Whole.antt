@@ -3,12 +3,11 @@ use Rattle.std.proofs.Common.{◌≡◌, ℕ, suc, ◌+◌, ◌*◌, ◌<◌, �
 use Rattle.std.proofs.lemmas.List.{get_or-take}
 use Rattle.labels.specs.declared.refusal.Refusal.{Refusal}
 use Rattle.exchanges.specs.Plane.{Plane, turn, after, last_round, Turned}
-use Rattle.exchanges.specs.Trees.{IsPath, Run, Hop, hops, fill, fill_round, filled, tree_size}
+use Rattle.exchanges.specs.Trees.{IsPath, Run, hops, fill, fill_round, filled, tree_size}
 use Rattle.exchanges.specs.Trees.{own as own_of_lem}
-use Rattle.exchanges.specs.Slots.{held, Worked, carried, hops_under, Stands}
+use Rattle.exchanges.specs.Slots.{held, Worked, carried, Stands}
 use Rattle.exchanges.specs.Fill.{from_self, fill_from}
 use Rattle.exchanges.specs.Members.{all_hops}
-use Rattle.exchanges.proofs.Orders.{hops_all}
 use Rattle.exchanges.proofs.Stand.{Agrees, fold_agrees}
 use Rattle.exchanges.proofs.Alike.{Alike, fill_alike}
 
@@ -17,16 +16,15 @@ module _ {I : Type 0} (n t size : ℕ) (own : List (Option I)) where
   abbrev pub first : Plane I → List (Option I) → Run I
   first b ws = record { plane = b; trees = held n size own ws }
 
-  pub agrees_round : (sized : size ≡ tree_size n t) (rest : List (Option I)) (b b₁ b₂ : Plane I) (ws ws₂ : List (Option I)) (R : Run I) (r : ℕ) → r ≤ t → Agrees n t size own rest (record { plane = b; slots = ws }) R → b₁ ≡ after b turn → Worked b₂ ws₂ (fold (carried n size own) (record { plane = b₁; slots = ws }) (hops_under n [] r)) → Agrees n t size own rest (record { plane = b₂; slots = ws₂ }) (fill_round n R r)
+  pub agrees_round : (sized : size ≡ tree_size n t) (rest : List (Option I)) (b b₁ b₂ : Plane I) (ws ws₂ : List (Option I)) (R : Run I) (r : ℕ) → r ≤ t → Agrees n t size own rest (record { plane = b; slots = ws }) R → b₁ ≡ after b turn → Worked b₂ ws₂ (fold (carried n size own) (record { plane = b₁; slots = ws }) (hops n r)) → Agrees n t size own rest (record { plane = b₂; slots = ws₂ }) (fill_round n R r)
   agrees_round sized rest b b₁ b₂ ws ws₂ R r l a e k =
       let turned : Agrees n t size own rest (record { plane = b₁; slots = ws }) (record { plane = after R.plane turn; trees = R.trees }) = record { planes = e ∙ ap (λ (x : Plane I). after x turn) a.planes; stands = a.stands; roomy = a.roomy; beyond = a.beyond } in
       let done = fold_agrees n t size sized own rest r l (record { plane = b₁; slots = ws }) (record { plane = after R.plane turn; trees = R.trees }) (hops n r) turned (all_hops n r) in
-      let k' = subst (λ (hs : List Hop). Worked b₂ ws₂ (fold (carried n size own) (record { plane = b₁; slots = ws }) hs)) (hops_all n r) k in
       record {
-        planes = k'.plane_is ∙ done.planes;
-        stands = subst (λ (x : List (Option I)). Stands n t size own x (fill_round n R r).trees) (sym k'.slots_is) done.stands;
-        roomy = omega (arith, done.roomy, ap length k'.slots_is);
-        beyond = ap (drop (n * size)) k'.slots_is ∙ done.beyond;
+        planes = k.plane_is ∙ done.planes;
+        stands = subst (λ (x : List (Option I)). Stands n t size own x (fill_round n R r).trees) (sym k.slots_is) done.stands;
+        roomy = omega (arith, done.roomy, ap length k.slots_is);
+        beyond = ap (drop (n * size)) k.slots_is ∙ done.beyond;
       }
 
   -- what n boards send

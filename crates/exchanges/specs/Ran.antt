@@ -5,11 +5,6 @@ use Rattle.labels.specs.Refusals.{row}
 use Rattle.exchanges.specs.Plane.{Plane}
 use Rattle.exchanges.specs.Plain.{Heard}
 
--- the number of a refusal that is due, if one is
-abbrev pub row_of : Option Refusal → Option ℕ
-row_of None = None
-row_of (Some e) = Some (row e)
-
 -- a backplane, with the slots that it fills
 abbrev pub heard_at : {I : Type 0} → Plane I → List (Option I) → Heard I
 heard_at b h = record { plane = b; slots = h }

@@ -1,26 +1,24 @@
 -- The trees of all boards in one list of slots, filled and reduced in place. Only inner contracts speak of it.
 use Rattle.std.specs.Prelude.{◌≡◌, ℕ, zero, suc, ◌+◌, ◌-◌, ◌*◌, ◌<◌, ◌≤◌, Bool, List, [], ◌∷◌, map, length, get_or, None, fold, Option, slice_index, slice_index_or, slice_set}
 use Rattle.std.specs.List.{range_with_len, flat_map}
-use Rattle.exchanges.specs.Boards.{most_boards}
+use Rattle.std.specs.Coded.{Unit-prop, le_prop}
+use Rattle.std.proofs.Math.Bool.{Bool-set}
 use Rattle.exchanges.specs.Plane.{Plane, carry, after}
-use Rattle.exchanges.specs.Trees.{IsPath, Trees, Hop, place, tree_size, others, reduce}
+use Rattle.exchanges.specs.Trees.{IsPath, Trees, Hop, place, level, others, reduce}
 
 -- the path in the first k entries of a list, the last board first
 abbrev pub trail : List ℕ → ℕ → List ℕ
 trail bs zero = []
 trail bs (suc k) = slice_index bs k ∷ trail bs k
 
+-- a list is a path in at most one way
+pub path_prop : (n : ℕ) (α : List ℕ) → IsProp (IsPath n α)
+path_prop n [] = Unit-prop
+path_prop n (q ∷ α) = let rest = path_prop n α in Prim.hlevel (le_prop, Bool-set, rest)
+
 -- the slot of a board and a path, in trees of the given size
 abbrev pub slot : ℕ → ℕ → ℕ → List ℕ → ℕ
 slot n size p α = p * size + place n α
-
--- enough slots for n trees of height t, and for what n boards send
-pub record Room (n t size owns slots : ℕ) : Type 0 where
-  pub few : n ≤ most_boards
-  pub low : 3 * t < n
-  pub sized : size ≡ tree_size n t
-  pub sends : n ≤ owns
-  pub holds : n * size ≤ slots
 
 -- what a board's tree holds; at the empty path, what the board itself sends
 abbrev pub held : {I : Type 0} → ℕ → ℕ → List (Option I) → List (Option I) → ℕ → List ℕ → Option I
@@ -48,14 +46,10 @@ pub record Worked {I : Type 0} (b : Plane I) (ws : List (Option I)) (w : Work I)
 abbrev pub hops_from : ℕ → List ℕ → ℕ → List Hop
 hops_from n α q = map (λ p. record { path = α; from = q; to = p }) (range_with_len 0 n)
 
--- the carries on one path, by sender and receiver
-abbrev pub hops_on : ℕ → List ℕ → List Hop
-hops_on n α = flat_map (λ q. hops_from n α q) (others n α)
-
--- the carries on all paths that have m boards more, in rising order
-abbrev pub hops_under : ℕ → List ℕ → ℕ → List Hop
-hops_under n α zero = hops_on n α
-hops_under n α (suc m) = flat_map (λ q. hops_under n (q ∷ α) m) (others n α)
+-- the carries that fill a path's slots, from its last board, by receiver
+abbrev pub hops_to : ℕ → List ℕ → List Hop
+hops_to n [] = []
+hops_to n (q ∷ α) = hops_from n α q
 
 -- the slots hold the trees, and the empty path what is sent
 pub record Stands {I : Type 0} (n t size : ℕ) (own ws : List (Option I)) (T : Trees I) : Type 0 where
@@ -75,12 +69,11 @@ settle same n t size ws s = slice_set ws (slot n size s.board s.path) (reduce sa
 abbrev pub spots_on : ℕ → List ℕ → List Spot
 spots_on n α = map (λ p. record { board = p; path = α }) (range_with_len 0 n)
 
--- all paths that have m boards more
-abbrev pub spots_under : ℕ → List ℕ → ℕ → List Spot
-spots_under n α zero = spots_on n α
-spots_under n α (suc m) = flat_map (λ q. spots_under n (q ∷ α) m) (others n α)
+-- all paths of k boards for every board
+abbrev pub spots : ℕ → ℕ → List Spot
+spots n k = flat_map (spots_on n) (level n k)
 
 -- the first j levels reduced, from the longest paths but the leaves
 abbrev pub reduced_down : {I : Type 0} → (I → I → Bool) → ℕ → ℕ → ℕ → List (Option I) → ℕ → List (Option I)
 reduced_down same n t size ws zero = ws
-reduced_down same n t size ws (suc j) = fold (settle same n t size) (reduced_down same n t size ws j) (spots_under n [] (t - j))
+reduced_down same n t size ws (suc j) = fold (settle same n t size) (reduced_down same n t size ws j) (spots n (t - j))

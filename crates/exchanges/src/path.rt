@@ -1,17 +1,21 @@
 // Paths of boards, and where they stand in a tree.
-ghost use Rattle.std.specs.Prelude.{◌≡◌, ◌+◌, ◌-◌, ◌*◌, ◌<◌, ◌≤◌, ◌∷◌};
+ghost use Rattle.std.specs.Prelude.{◌≡◌, ◌+◌, ◌-◌, ◌*◌, ◌<◌, ◌≤◌, false, ◌∷◌};
 ghost use Rattle.exchanges.specs.Boards.{most_boards};
-ghost use Rattle.exchanges.specs.Trees.{on, lower, rank, start, place, tree_size, IsPath};
-ghost use Rattle.exchanges.specs.Slots.{trail};
+ghost use Rattle.exchanges.specs.Trees.{on, lower, rank, paths_of, start, place, tree_size, IsPath};
+ghost use Rattle.exchanges.specs.Slots.{trail, path_prop};
 
-// Up to three different board numbers, the first one first. A tree has a slot for each path of one
-// board or more; the empty path stands for what a board itself sends.
-#[derive(Clone, Copy)]
-pub(crate) struct Path {
-    boards: [u8; 3],
-    len: usize,
-    ghost short: { len ≤ 3 },
-}
+use crate::fitting::Size;
+
+// Where the levels of paths of one, two, three and four boards begin, for one to seven boards.
+const LEVELS: [[usize; 4]; 7] = [
+    [0, 1, 1, 1],
+    [0, 2, 4, 4],
+    [0, 3, 9, 15],
+    [0, 4, 16, 40],
+    [0, 5, 25, 85],
+    [0, 6, 36, 156],
+    [0, 7, 49, 259],
+];
 
 // How many boards there are, how many of them may be bad, and how many slots one board's tree has.
 #[derive(Clone, Copy)]
@@ -19,48 +23,83 @@ pub(crate) struct Shape {
     pub(crate) n: usize,
     pub(crate) t: usize,
     pub(crate) size: usize,
+    ghost few: { n ≤ most_boards },
+    ghost fewer: { 3 * t < n },
+    ghost sized: { size ≡ tree_size n t },
 }
 
-// Where the levels of paths of one, two and three boards begin, for one to seven boards.
-const LEVELS: [[u32; 3]; 7] = [
-    [0, 1, 1],
-    [0, 2, 4],
-    [0, 3, 9],
-    [0, 4, 16],
-    [0, 5, 25],
-    [0, 6, 36],
-    [0, 7, 49],
-];
-
-// Where the level of paths of k boards begins.
-fn level_start(n: usize, k: usize) -> usize
-    requires { (1 ≤ n) × ((n ≤ most_boards) × ((1 ≤ k) × (k ≤ 3))) }
-    ensures { result ≡ start n k }
-{
-    LEVELS[n - 1][k - 1] as usize
-}
-
-// The slots of one board's tree: where the level of its longest paths begins, and how many these are.
-pub(crate) fn tree_size(n: usize, t: usize) -> usize
-    requires few { n ≤ most_boards }
-    requires low { 3 * t < n }
-    ensures { result ≡ tree_size n t }
-{
-    let mut count = 1;
-    for k in 0..t + 1 {
-        count *= n - k;
+impl Shape {
+    // A tree ends where the level of paths of t + 2 boards would begin.
+    pub(crate) fn new(counts: Size) -> Shape
+        ensures { (result.n ≡ counts.boards) × (result.t ≡ counts.faults) }
+    {
+        let (n, t) = (counts.n(), counts.t());
+        Shape {
+            n,
+            t,
+            size: LEVELS[n - 1][t + 1],
+        }
     }
-    level_start(n, t + 1) + count
+
+    // The slots of the trees of all boards.
+    pub(crate) fn slots(self) -> usize
+        ensures { result ≡ self.n * self.size }
+    {
+        self.n * self.size
+    }
+
+    // How many paths have k boards.
+    pub(crate) fn paths(self, k: usize) -> usize
+        requires { (1 ≤ k) × (k ≤ 3) }
+        ensures { result ≡ paths_of self.n k }
+    {
+        self.level_start(k + 1) - self.level_start(k)
+    }
+
+    // Where the level of paths of k boards begins.
+    fn level_start(self, k: usize) -> usize
+        requires { (1 ≤ k) × (k ≤ 4) }
+        ensures value { result ≡ start self.n k }
+        ensures small { result < 260 }
+    {
+        LEVELS[self.n - 1][k - 1]
+    }
+}
+
+// Different boards, the first one first, with the place of the path among those of its length, in
+// rising order. A tree has a slot for each path of one board or more; the empty path stands for what
+// a board itself sends.
+// Kept an array with a length: memory of the boards is lent, and a path has no lender.
+#[derive(Clone, Copy)]
+pub(crate) struct Path {
+    pub(crate) shape: Shape,
+    boards: [u8; 3],
+    len: usize,
+    index: usize,
+    ghost short: { len ≤ shape.t + 1 },
+    ghost differ: { IsPath shape.n (trail boards len) } by { path_prop shape.n (trail boards len) },
+    ghost placed: { index ≡ rank shape.n (trail boards len) },
 }
 
 impl Path {
-    pub(crate) fn empty() -> Path
-        ensures { result.len ≡ 0 }
+    // The path of so many boards at a place among them.
+    pub(crate) fn at(shape: Shape, len: usize, index: usize) -> Path
+        requires short { len ≤ shape.t + 1 }
+        requires within { index < paths_of shape.n len }
+        ensures shape { result.shape ≡ shape }
+        ensures long { result.len ≡ len }
+        ensures placed { result.index ≡ index }
     {
-        Path {
-            boards: [0; 3],
-            len: 0,
+        if len == 0 {
+            return Path {
+                shape,
+                boards: [0; 3],
+                len,
+                index,
+            };
         }
+        let off = shape.n - (len - 1);
+        Path::at(shape, len - 1, index / off).add(index % off)
     }
 
     pub(crate) fn len(self) -> usize
@@ -69,80 +108,72 @@ impl Path {
         self.len
     }
 
-    // The path with a board added.
-    pub(crate) fn add(self, q: u8) -> Path
-        requires { self.len < 3 }
-        ensures longer { result.len ≡ self.len + 1 }
-        ensures added { trail result.boards result.len ≡ q ∷ trail self.boards self.len }
-    {
-        let mut boards = self.boards;
-        boards[self.len] = q;
-        Path {
-            boards,
-            len: self.len + 1,
-        }
-    }
-
     // Whether a board stands on the path.
-    pub(crate) fn has(self, q: usize) -> bool
+    fn has(self, q: usize) -> bool
         ensures { result ≡ on q (trail self.boards self.len) }
     {
-        let mut found = false;
-        for i in 0..self.len {
-            found = (q == self.boards[i] as usize) | found;
-        }
-        found
+        self.boards[..self.len].iter().any(|a| q == usize::from(*a))
     }
 
-    // How many of the first k boards are below q.
-    fn below(self, q: usize, k: usize) -> usize
-        requires { k ≤ 3 }
-        ensures { result ≡ lower q (trail self.boards k) }
+    // The i-th of the boards off the path.
+    fn other(self, i: usize) -> usize
+        requires { i < self.shape.n - self.len }
+        ensures board { result < self.shape.n }
+        ensures off { on result (trail self.boards self.len) ≡ false }
+        ensures next { result - lower result (trail self.boards self.len) ≡ i }
     {
-        let mut count = 0;
-        for i in 0..k {
-            if (self.boards[i] as usize) < q {
-                count += 1;
-            }
-        }
-        count
+        (0..self.shape.n).filter(|q| !self.has(*q)).nth(i).unwrap()
     }
 
-    // The place of the first k boards, worked out from the place of those but the last.
-    fn place_of(self, n: usize, k: usize) -> usize
-        requires few { n ≤ most_boards }
-        requires some { 1 ≤ k }
-        requires short { k ≤ 3 }
-        requires path { IsPath n (trail self.boards k) }
-        ensures { result ≡ place n (trail self.boards k) }
+    // The path with the i-th of the boards off it added.
+    fn add(self, i: usize) -> Path
+        requires short { self.len ≤ self.shape.t }
+        requires off { i < self.shape.n - self.len }
+        ensures shape { result.shape ≡ self.shape }
+        ensures longer { result.len ≡ self.len + 1 }
+        ensures next { result.index ≡ self.index * (self.shape.n - self.len) + i }
     {
-        let q = self.boards[k - 1] as usize;
-        if k == 1 {
-            return q;
+        let mut boards = self.boards;
+        // Kept a cast: it is proved to lose nothing, where `try_from` would ask for an answer to what cannot be.
+        boards[self.len] = self.other(i) as u8;
+        Path {
+            shape: self.shape,
+            boards,
+            len: self.len + 1,
+            index: self.index * (self.shape.n - self.len) + i,
         }
-        let rank = self.place_of(n, k - 1) - level_start(n, k - 1);
-        level_start(n, k) + rank * (n - (k - 1)) + (q - self.below(q, k - 1))
+    }
+
+    // The path but for its last board, and that board.
+    pub(crate) fn split(self) -> (Path, usize)
+        requires { 1 ≤ self.len }
+        ensures shape { result.0.shape ≡ self.shape }
+        ensures board { result.1 < self.shape.n }
+        ensures parts { trail self.boards self.len ≡ result.1 ∷ trail result.0.boards result.0.len }
+    {
+        let len = self.len - 1;
+        let rest = Path {
+            shape: self.shape,
+            boards: self.boards,
+            len,
+            index: self.index / (self.shape.n - len),
+        };
+        (rest, usize::from(self.boards[len]))
     }
 
     // The place of the path in a board's tree.
-    pub(crate) fn place(self, n: usize) -> usize
-        requires few { n ≤ most_boards }
-        requires some { 1 ≤ self.len }
-        requires path { IsPath n (trail self.boards self.len) }
-        ensures { result ≡ place n (trail self.boards self.len) }
+    pub(crate) fn place(self) -> usize
+        requires { 1 ≤ self.len }
+        ensures { result ≡ place self.shape.n (trail self.boards self.len) }
     {
-        self.place_of(n, self.len)
+        self.shape.level_start(self.len) + self.index
     }
 
     // Where the places of the path's children begin.
-    pub(crate) fn children(self, n: usize) -> usize
-        requires few { n ≤ most_boards }
-        requires some { 1 ≤ self.len }
-        requires short { self.len < 3 }
-        requires path { IsPath n (trail self.boards self.len) }
-        ensures { result ≡ start n (self.len + 1) + rank n (trail self.boards self.len) * (n - self.len) }
+    pub(crate) fn children(self) -> usize
+        requires { (1 ≤ self.len) × (self.len ≤ self.shape.t) }
+        ensures { result ≡ start self.shape.n (self.len + 1) + rank self.shape.n (trail self.boards self.len) * (self.shape.n - self.len) }
     {
-        let rank = self.place(n) - level_start(n, self.len);
-        level_start(n, self.len + 1) + rank * (n - self.len)
+        self.shape.level_start(self.len + 1) + self.index * (self.shape.n - self.len)
     }
 }

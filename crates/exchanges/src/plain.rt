@@ -1,12 +1,12 @@
 // What exchanges over a backplane share: when they are refused, and the plain exchange.
-ghost use Rattle.std.specs.Prelude.{◌≡◌, ◌+◌, ◌*◌, ◌<◌, ◌≤◌, length};
-ghost use Rattle.exchanges.specs.Boards.{most_boards};
+ghost use Rattle.std.specs.Prelude.{◌≡◌, ◌+◌, ◌*◌, ◌<◌, ◌≤◌, length, MatchResult};
+ghost use Rattle.labels.specs.Refusals.{row};
 ghost use Rattle.exchanges.specs.Asked.{due, short};
 ghost use Rattle.exchanges.specs.Plain.{plain_run, to_each, from_each};
-ghost use Rattle.exchanges.specs.Ran.{row_of, heard_at, Ran};
+ghost use Rattle.exchanges.specs.Ran.{heard_at, Ran};
 
 use crate::backplane::Backplane;
-use crate::fitting::fits_counts;
+use crate::fitting::Size;
 use labels::refusal::Refusal;
 
 // Whether what is sent or heard has too few places.
@@ -17,71 +17,67 @@ pub(crate) fn too_short<I>(boards: u8, sent: &[Option<I>], heard: &[Option<I>]) 
     sent.len() < n || heard.len() < n * n
 }
 
-// The refusal of an exchange of so many rounds begun at this round, if one is due.
-pub(crate) fn refusal_due(
+// The counts, where an exchange of so many rounds may begin at this round, and else the refusal that is due.
+pub(crate) fn may_begin(
     boards: u8,
     faults: u8,
     too_short: bool,
     round: u16,
     rounds: u16,
-) -> Option<Refusal>
-    ensures { row_of result ≡ due boards faults too_short round rounds }
+) -> Result<Size, Refusal>
+    ensures { let d = due boards faults too_short round rounds in MatchResult result (λ z. (d ≡ None) × (z.boards ≡ boards) × (z.faults ≡ faults)) (λ e. d ≡ Some (row e)) }
 {
-    if !fits_counts(boards, faults) {
-        return Some(Refusal::BadCounts);
-    }
+    let size = Size::new(boards, faults).ok_or(Refusal::BadCounts)?;
     if too_short {
-        return Some(Refusal::MemoryTooShort);
+        return Err(Refusal::MemoryTooShort);
     }
     if rounds > u16::MAX - round {
-        return Some(Refusal::RoundLimit);
+        return Err(Refusal::RoundLimit);
     }
-    None
+    Ok(size)
 }
 
-// Where n boards have what p heard from q.
-pub(crate) fn place(n: usize, p: usize, q: usize) -> usize
-    requires few { n ≤ most_boards }
-    requires receiver { p < n }
-    requires sender { q < n }
-    ensures value { result ≡ p * n + q }
-    ensures within { result < n * n }
+// Where the boards have what p heard from q.
+fn place(size: Size, p: usize, q: usize) -> usize
+    requires receiver { p < size.boards }
+    requires sender { q < size.boards }
+    ensures value { result ≡ p * size.boards + q }
+    ensures within { result < size.boards * size.boards }
 {
-    p * n + q
+    p * size.n() + q
 }
 
-// Board s sends its item to each of n boards.
+// Board s sends its item to each board.
 fn send_to_each<I: Copy, B: Backplane<I>>(
     b: &mut B,
-    n: usize,
+    size: Size,
     s: usize,
     item: Option<I>,
     heard: &mut [Option<I>],
 )
-    requires few { n ≤ most_boards }
-    requires known { s < n }
-    requires room { n * n ≤ length heard.old }
-    ensures { heard_at (B.plane b.new) heard.new ≡ to_each n item s (heard_at (B.plane b.old) heard.old) n }
+    requires known { s < size.boards }
+    requires room { size.boards * size.boards ≤ length heard.old }
+    ensures { heard_at (B.plane b.new) heard.new ≡ to_each size.boards item s (heard_at (B.plane b.old) heard.old) size.boards }
 {
-    for d in 0..n {
-        heard[place(n, d, s)] = b.carry(s, d, item);
+    // Kept by place: what is heard from one sender is a column of the square, and no slice has it.
+    for d in 0..size.n() {
+        heard[place(size, d, s)] = b.carry(s, d, item);
     }
 }
 
-// Each of n boards sends what it has to all.
+// Each board sends what it has to all.
 fn send_all<I: Copy, B: Backplane<I>>(
     b: &mut B,
-    n: usize,
+    size: Size,
     sent: &[Option<I>],
     heard: &mut [Option<I>],
 )
-    requires few { n ≤ most_boards }
-    requires given { n ≤ length sent.now }
-    requires room { n * n ≤ length heard.old }
-    ensures { heard_at (B.plane b.new) heard.new ≡ from_each n sent.now (heard_at (B.plane b.old) heard.old) n }
+    requires given { size.boards ≤ length sent.now }
+    requires room { size.boards * size.boards ≤ length heard.old }
+    ensures { heard_at (B.plane b.new) heard.new ≡ from_each size.boards sent.now (heard_at (B.plane b.old) heard.old) size.boards }
 {
-    for s in 0..n {
-        send_to_each(b, n, s, sent[s], heard);
+    for (s, item) in sent[..size.n()].iter().enumerate() {
+        send_to_each(b, size, s, *item, heard);
     }
 }
 
@@ -94,12 +90,10 @@ pub(crate) fn plain_over<I: Copy, B: Backplane<I>>(
 ) -> Result<(), Refusal>
     ensures { Ran B.plane plain_run b.old b.new sent.now (due (B.plane b.old).boards faults (short (B.plane b.old).boards sent.now heard.old) (B.plane b.old).round 1) heard.old heard.new result }
 {
-    let n = b.boards();
-    let short = too_short(n, sent, heard);
-    if let Some(refusal) = refusal_due(n, faults, short, b.round(), 1) {
-        return Err(refusal);
-    }
+    let boards = b.boards();
+    let short = too_short(boards, sent, heard);
+    let size = may_begin(boards, faults, short, b.round(), 1)?;
     b.turn()?;
-    send_all(b, usize::from(n), sent, heard);
+    send_all(b, size, sent, heard);
     Ok(())
 }

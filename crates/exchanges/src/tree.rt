@@ -5,7 +5,6 @@ ghost use Rattle.exchanges.specs.Plane.{last_round};
 ghost use Rattle.exchanges.specs.Asked.{due, short, FirmAsked};
 ghost use Rattle.exchanges.specs.Ran.{Ran};
 ghost use Rattle.exchanges.specs.Trees.{tree_size, grid, filled, reduced, workspace, tree_run, tree_meaning, tree_exchange};
-ghost use Rattle.exchanges.specs.Slots.{Room};
 ghost use Rattle.exchanges.specs.TreeLaws.{TreeLaws};
 ghost use Rattle.exchanges.specs.Carries.{InOrder};
 ghost use Rattle.exchanges.specs.Worked.{AllRight, cases};
@@ -14,22 +13,25 @@ ghost use Rattle.exchanges.specs.Keep.{trees_keep};
 
 use crate::backplane::Backplane;
 use crate::exchange::Exchange;
-use crate::fitting::fits_counts;
-use crate::path::{Shape, tree_size};
-use crate::plain::{plain_over, refusal_due, too_short};
+use crate::fitting::Size;
+use crate::path::Shape;
+use crate::plain::{may_begin, plain_over, too_short};
 use crate::rounds::gather;
 use crate::votes::reduce_all;
 use labels::item::Item;
 use labels::refusal::Refusal;
 
-// What each board heard from each other: its tree's slot of that board's path.
+// What each board heard from each other: the slots of the paths of one board, which stand first in its tree.
 fn hear<I: Copy>(heard: &mut [Option<I>], ws: &[Option<I>], shape: Shape)
-    requires room { Room shape.n shape.t shape.size shape.n (length ws.now) }
+    requires room { shape.n * shape.size ≤ length ws.now }
     requires heard { shape.n * shape.n ≤ length heard.old }
     ensures { heard.new ≡ grid shape.n (λ p q. slice_index_or ws.now (p * shape.size + q) None) ++ drop (shape.n * shape.n) heard.old }
 {
-    for k in 0..shape.n * shape.n {
-        heard[k] = ws[k / shape.n * shape.size + k % shape.n];
+    let n = shape.n;
+    // Kept by place: the rows of both lists are found by the board, and lie at different distances.
+    for p in 0..n {
+        let row = &ws[p * shape.size..p * shape.size + n];
+        heard[p * n..p * n + n].copy_from_slice(row);
     }
 }
 
@@ -41,7 +43,8 @@ fn run_trees<I: Item, B: Backplane<I>>(
     ws: &mut [Option<I>],
     shape: Shape,
 )
-    requires room { Room shape.n shape.t shape.size (length own.now) (length ws.old) }
+    requires sends { shape.n ≤ length own.now }
+    requires holds { shape.n * shape.size ≤ length ws.old }
     requires heard { shape.n * shape.n ≤ length heard.old }
     requires timely { (B.plane b.old).round + (shape.t + 1) ≤ last_round }
     ensures plane { B.plane b.new ≡ (filled shape.n (shape.t + 1) (B.plane b.old) (take shape.n own.now)).plane }
@@ -57,10 +60,7 @@ fn run_trees<I: Item, B: Backplane<I>>(
 fn slots_needed(boards: u8, faults: u8) -> usize
     ensures { result ≡ (if fits boards faults then boards * tree_size boards faults else 0) }
 {
-    if !fits_counts(boards, faults) {
-        return 0;
-    }
-    usize::from(boards) * tree_size(usize::from(boards), usize::from(faults))
+    Size::new(boards, faults).map_or(0, |size| Shape::new(size).slots())
 }
 
 // Whether what is sent, heard or worked in has too few places.
@@ -87,14 +87,10 @@ pub(crate) fn firm_over<I: Item, B: Backplane<I>>(
     ensures ran { Ran B.plane (tree_run I.same faults) b.old b.new sent.now (due (B.plane b.old).boards faults (short (B.plane b.old).boards sent.now heard.old || nat_lt (length work.old) (tree_meaning I.same faults (B.plane b.old)).workspace) (B.plane b.old).round (faults + 1)) heard.old heard.new result }
     ensures left { Left I.same faults (B.plane b.old) sent.now work.old work.new result }
 {
-    let n = b.boards();
-    let short = lacks_room(n, faults, sent, heard, work);
-    if let Some(refusal) = refusal_due(n, faults, short, b.round(), u16::from(faults) + 1) {
-        return Err(refusal);
-    }
-    let (n, t) = (usize::from(n), usize::from(faults));
-    let size = tree_size(n, t);
-    run_trees(b, sent, heard, work, Shape { n, t, size });
+    let boards = b.boards();
+    let short = lacks_room(boards, faults, sent, heard, work);
+    let size = may_begin(boards, faults, short, b.round(), u16::from(faults) + 1)?;
+    run_trees(b, sent, heard, work, Shape::new(size));
     Ok(())
 }
 

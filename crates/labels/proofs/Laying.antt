@@ -1,19 +1,7 @@
 -- Memory with bytes laid over it.
 use Rattle.std.proofs.Common.{◌≡◌, ℕ, zero, suc, ◌+◌, ◌≤◌, List, [], ◌∷◌, ◌++◌, length, take, drop, sym, refl, ap, ◌∙◌, arith, length-append, length-drop, take-append-drop}
-use Rattle.std.proofs.lemmas.List.{append-nil, drop_all, drop-drop, take_at, drop_at, length-take-le}
+use Rattle.std.proofs.lemmas.List.{drop-drop, take_at, drop_at, length-take-le}
 use Rattle.labels.specs.Bytes.{Bytes, laid}
-
--- over all of the memory
-pub laid_all : (bs m : List ℕ) → length m ≡ length bs → laid bs 0 m ≡ bs
-laid_all bs m e = ap (λ l. bs ++ l) (drop_all (0 + length bs) m (omega arith)) ∙ append-nil bs
-
--- over its front, and then over the rest
-pub laid_two : (a b m : List ℕ) → length m ≡ length a + length b → laid b (length a) (laid a 0 m) ≡ a ++ b
-laid_two a b m e =
-    let rest = drop (0 + length a) m in
-    let long : length rest ≡ length b = simp length-drop (omega arith) in
-    let end : drop (length a + length b) (a ++ rest) ≡ [] = drop_all _ (a ++ rest) (simp length-append (omega arith)) in
-    ap (λ l. l ++ (b ++ drop (length a + length b) (a ++ rest))) (take_at a rest (length a) refl) ∙ ap (λ l. a ++ (b ++ l)) end ∙ ap (λ l. a ++ l) (append-nil b)
 
 pub laid_length : (bs m : List ℕ) (p : ℕ) → p + length bs ≤ length m → length (laid bs p m) ≡ length m
 laid_length bs m p h =

@@ -1,10 +1,8 @@
 -- Reading and writing labels at any place, for every kind.
-use Rattle.std.proofs.Common.{◌≡◌, ℕ, ◌+◌, ◌-◌, ◌<◌, ◌≤◌, Bool, true, false, List, ◌++◌, length, take, drop, Some, None, Ok, Err, Option, Result, sym, refl, ap, ◌∙◌, arith, length-drop, eq-eqb}
-use borrow.Rule.Slice.PartMut.{put_mid}
-use Rattle.std.proofs.lemmas.List.{drop-drop, length-take-le}
-use Rattle.std.proofs.lemmas.Bool.{cond-true, le-leb, lt-leb, leb-true, true≢false}
+use Rattle.std.proofs.Common.{◌≡◌, ℕ, ◌+◌, ◌-◌, ◌≤◌, Bool, true, false, List, length, take, drop, Some, None, Ok, Err, Option, Result, sym, refl, ap, ◌∙◌, arith}
+use Rattle.std.proofs.lemmas.Bool.{cond-true, le-leb, leb-true, true≢false}
 use Rattle.labels.specs.Bytes.{Bytes, laid}
-use Rattle.labels.specs.Coding.{Coding, Own, RoundTrips, Overwrites, room, read_as, read_at, write_at, written}
+use Rattle.labels.specs.Coding.{Coding, Own, RoundTrips, room, read_as, read_at, written}
 use Rattle.labels.specs.Faults.{Numbered, require}
 use Rattle.labels.specs.declared.fault.Reader.TheVariants.{Label}
 use Rattle.labels.proofs.Laying.{laid_length, laid_part, laid_own, bytes_take, bytes_drop}
@@ -22,39 +20,6 @@ module _ {L : Type 0} (c : Coding L) (own : Own c) where
       let some = own.some in
       let h : c.width ≤ length b - p = leb-true _ _ e in
       omega arith
-
-  -- what the reader finds, by its own count of the width
-  pub read_short : (b : List ℕ) (p w : ℕ) → w ≡ c.width → length b - p < w → Err (13, p, Label) ≡ read_at c b p
-  read_short b p w e h =
-      let none : room c b p ≡ false = lt-leb _ _ (omega arith) in
-      ap (λ t. require t (13, p, Label) (read_as c p (c.read (take c.width (drop p b))))) (sym none)
-
-  read_long : (b : List ℕ) (p w : ℕ) (o : Option L) → w ≡ c.width → w ≤ length b - p → o ≡ c.read (take ((p + w) - p) (drop p b)) → read_as c p o ≡ read_at c b p
-  read_long b p w o e h k =
-      let n : (p + w) - p ≡ c.width = omega arith in
-      let long : room c b p ≡ true = le-leb _ _ (omega arith) in
-      ap (read_as c p) (k ∙ ap (λ j. c.read (take j (drop p b))) n) ∙ sym (require_true (room c b p) _ _ long)
-
-  pub read_some : (b : List ℕ) (p w : ℕ) (l : L) → w ≡ c.width → w ≤ length b - p → Some l ≡ c.read (take ((p + w) - p) (drop p b)) → Ok (l, p + w) ≡ read_at c b p
-  read_some b p w l e h k = ap (λ j. Ok (l, p + j)) e ∙ read_long b p w (Some l) e h k
-
-  pub read_none : (b : List ℕ) (p w : ℕ) → w ≡ c.width → w ≤ length b - p → None ≡ c.read (take ((p + w) - p) (drop p b)) → Err (16, p, Label) ≡ read_at c b p
-  read_none b p w e h k = read_long b p w None e h k
-
-  -- what the writer leaves, by its own count of the width
-  pub wrote : (l : L) (m out : List ℕ) (p w : ℕ) (r : Bool) → w ≡ c.width → w ≤ length m - p → Overwrites (c.write l) (take ((p + w) - p) (drop p m)) out r → (Ok (p + w) ≡ write_at c l m p) × (put_mid p ((p + w) - p) m out ≡ written c l m p)
-  wrote l m out p w r e h k =
-      let wide = own.wide l in
-      let some = own.some in
-      let long : room c m p ≡ true = le-leb _ _ (omega arith) in
-      let n : (p + w) - p ≡ length (c.write l) = omega arith in
-      let part : length (take ((p + w) - p) (drop p m)) ≡ length (c.write l) = length-take-le _ (drop p m) (simp length-drop (omega arith)) ∙ n in
-      let told : r ≡ true = k.0 ∙ eq-eqb _ _ part in
-      let is : out ≡ c.write l = k.1 ∙ cond-true r _ _ told in
-      let rest : drop ((p + w) - p) (drop p m) ≡ drop (p + length (c.write l)) m = ap (λ j. drop j (drop p m)) n ∙ drop-drop _ p m in (
-        ap (λ j. Ok (p + j)) e ∙ sym (require_true (room c m p) _ _ long),
-        ap (λ x. take p m ++ (x ++ drop ((p + w) - p) (drop p m))) is ∙ ap (λ x. take p m ++ (c.write l ++ x)) rest ∙ sym (cond-true _ (laid (c.write l) p m) m long),
-      )
 
   -- the bytes of a label at p are the part there
   part_of : (l : L) (b : List ℕ) (p : ℕ) → p + c.width ≤ length b → laid (c.write l) p b ≡ b → take c.width (drop p b) ≡ c.write l

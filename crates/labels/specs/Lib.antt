@@ -3,8 +3,10 @@ pub mod Faults
 pub mod Order
 pub mod Item
 pub mod Slip
+pub mod Slips
 pub mod Bytes
 pub mod Coding
+pub mod KindNumbers
 pub mod Kinds
 pub mod Orders
 pub mod Codings

@@ -6,7 +6,7 @@ use Rattle.std.specs.declared.cmp.Ordering.{Ordering}
 use Rattle.std.proofs.Common.{ap, ◌∙◌, arith}
 use Rattle.std.proofs.Math.Bridge.{le_prop}
 use Rattle.std.proofs.lemmas.Bool.Decides.{nat_tests}
-use Rattle.std.specs.Ordering.{ordering_then, ordering_reverse}
+use Rattle.std.specs.Ordering.{nat_cmp, ordering_then, ordering_reverse}
 use Rattle.labels.specs.Kinds.{by_number, frame_order, stamp_order}
 use Rattle.labels.specs.Order.{Total}
 use Rattle.labels.specs.declared.frame_number.FrameNumber.{FrameNumber}
@@ -19,6 +19,16 @@ number_total = record {
   turned = λ a b. grind (arith, nat_tests);
   through = λ a b c e f. grind (arith, nat_tests);
 }
+
+-- numbers are compared by what they are
+number_compares : (a b : ℕ) → nat_cmp a b ≡ by_number a b
+number_compares a b = grind (arith, nat_tests)
+
+pub frame_compares : (a b : FrameNumber) → nat_cmp a.number b.number ≡ frame_order a b
+frame_compares a b = number_compares a.number b.number
+
+pub stamp_compares : (a b : TriggerStamp) → ordering_then (nat_cmp a.seconds b.seconds) (nat_cmp a.ticks b.ticks) ≡ stamp_order a b
+stamp_compares a b i = ordering_then (number_compares a.seconds b.seconds i) (number_compares a.ticks b.ticks i)
 
 pub same_frame : (a b : FrameNumber) → a.number ≡ b.number → a ≡ b
 same_frame a b h i = record { number = h i; fits = is_prop→PathP (λ j. h j < 2 ^ 32) (λ j. le_prop) a.fits b.fits i }

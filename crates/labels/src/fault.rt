@@ -1,8 +1,10 @@
 // Where and why an input is refused.
 ghost use Rattle.std.specs.Prelude.{◌≡◌, Some};
-ghost use Rattle.labels.specs.Faults.{word, line};
+ghost use Rattle.labels.specs.Faults.{word, numbered, line};
+ghost use Rattle.labels.specs.Refusals.{row};
 
 use crate::refusal::Refusal;
+use std::error::Error;
 use std::fmt;
 
 // which reader refused
@@ -31,6 +33,26 @@ impl Reader {
             Reader::Script => "script",
         }
     }
+
+    // The fault of this reader for a refusal at a place.
+    pub fn fault_at(self, place: usize, refusal: Refusal) -> Fault
+        ensures { numbered result ≡ (row refusal, place, self) }
+    {
+        Fault {
+            refusal,
+            place,
+            reader: self,
+        }
+    }
+}
+
+// A reader is printed as its word.
+impl fmt::Display for Reader {
+    ghost output = { λ r. Some (word r) };
+
+    fn fmt<W: fmt::Write>(&self, f: &mut fmt::Formatter<W>) -> fmt::Result {
+        f.write_str(self.word())
+    }
 }
 
 // As in `fault 16 at 12 in label`.
@@ -38,9 +60,11 @@ impl fmt::Display for Fault {
     ghost output = { λ f. Some (line f) };
 
     fn fmt<W: fmt::Write>(&self, f: &mut fmt::Formatter<W>) -> fmt::Result {
-        let number = self.refusal.number();
+        let refusal = self.refusal;
         let place = self.place;
-        let word = self.reader.word();
-        write!(f, "fault {number} at {place} in {word}")
+        let reader = self.reader;
+        write!(f, "fault {refusal} at {place} in {reader}")
     }
 }
+
+impl Error for Fault {}

@@ -1,7 +1,7 @@
 // A frame number: the exposure's place in the run, 32 bits without a sign.
 ghost use Rattle.std.specs.Prelude.{◌≡◌, ◌^◌, ◌<◌};
 
-#[derive(Clone, Copy, PartialEq, Eq, Debug)]
+#[derive(Clone, Copy, PartialEq, Eq, PartialOrd, Ord, Debug)]
 pub struct FrameNumber {
     number: u32,
     ghost fits: { number < 2 ^ 32 },

@@ -2,12 +2,12 @@
 ghost use Rattle.std.specs.Prelude.{◌≡◌, Bool};
 ghost use Rattle.labels.specs.Item.{Tells};
 
-pub trait Item: Copy {
+// Items that are the same just where `==` says so.
+pub trait Item: Copy + Eq {
     // whether two items are the same
     ghost same: { Self → Self → Bool };
 
-    fn is_same(self, other: Self) -> bool
-        ensures { result ≡ same self other };
-
     ghost tells: { Tells same };
+
+    ghost compares: { (x y : Self) → Self.eq x y ≡ same x y };
 }

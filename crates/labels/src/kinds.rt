@@ -1,29 +1,17 @@
 // The two kinds of labels: frame numbers and trigger stamps.
-ghost use Rattle.std.specs.Prelude.{◌≡◌, ◌+◌, ◌≤◌, ◌++◌, length, Some};
+ghost use Rattle.std.specs.Prelude.{◌≡◌, ◌+◌, ◌≤◌, ◌++◌, length, Some, refl};
+ghost use Rattle.labels.specs.declared.kind.Kind.TheVariants.{Frames, Stamps};
 ghost use Rattle.labels.specs.Bytes.{four_bytes, laid};
-ghost use Rattle.labels.specs.Kinds.{by_number, frame_order, stamp_order, frame_coding, stamp_coding, frame_text, stamp_text, number_at};
-ghost use Rattle.labels.specs.Orders.{frame_total, stamp_total};
+ghost use Rattle.labels.specs.Kinds.{frame_order, stamp_order, frame_coding, stamp_coding, frame_text, stamp_text, number_at};
+ghost use Rattle.labels.specs.Orders.{frame_total, frame_compares, stamp_total, stamp_compares};
 ghost use Rattle.labels.specs.Codings.{frame_own, stamp_own};
 
 use crate::frame_number::FrameNumber;
+use crate::kind::Kind;
 use crate::label::Label;
 use crate::order::Ordered;
 use crate::trigger_stamp::TriggerStamp;
-use std::cmp::Ordering;
 use std::fmt;
-
-// How two numbers stand to each other.
-fn by_number(a: u32, b: u32) -> Ordering
-    ensures { result ≡ by_number a b }
-{
-    if a < b {
-        Ordering::Less
-    } else if b < a {
-        Ordering::Greater
-    } else {
-        Ordering::Equal
-    }
-}
 
 // The number in the four bytes from a place on.
 fn number_at(b: &[u8], at: usize) -> u32
@@ -46,27 +34,25 @@ impl Ordered for FrameNumber {
 
     ghost total = { frame_total };
 
-    fn compare(self, other: FrameNumber) -> Ordering {
-        by_number(self.number(), other.number())
-    }
+    ghost compares = { frame_compares };
 }
 
 impl Label for FrameNumber {
-    const KIND: u8 = 1;
+    const KIND: Kind = Kind::Frames;
 
     const WIDTH: usize = 4;
 
     ghost coding = { frame_coding };
 
+    ghost KIND = { Frames };
+
+    ghost WIDTH = { 4 };
+
     ghost own = { frame_own };
 
-    fn kind_number() -> u8 {
-        Self::KIND
-    }
+    ghost numbered = { refl };
 
-    fn byte_count() -> usize {
-        Self::WIDTH
-    }
+    ghost wide = { refl };
 
     fn from_bytes(bytes: &[u8]) -> Option<FrameNumber> {
         if bytes.len() != 4 {
@@ -89,28 +75,25 @@ impl Ordered for TriggerStamp {
 
     ghost total = { stamp_total };
 
-    // By seconds, and then by ticks.
-    fn compare(self, other: TriggerStamp) -> Ordering {
-        by_number(self.seconds(), other.seconds()).then(by_number(self.ticks(), other.ticks()))
-    }
+    ghost compares = { stamp_compares };
 }
 
 impl Label for TriggerStamp {
-    const KIND: u8 = 2;
+    const KIND: Kind = Kind::Stamps;
 
     const WIDTH: usize = 8;
 
     ghost coding = { stamp_coding };
 
+    ghost KIND = { Stamps };
+
+    ghost WIDTH = { 8 };
+
     ghost own = { stamp_own };
 
-    fn kind_number() -> u8 {
-        Self::KIND
-    }
+    ghost numbered = { refl };
 
-    fn byte_count() -> usize {
-        Self::WIDTH
-    }
+    ghost wide = { refl };
 
     fn from_bytes(bytes: &[u8]) -> Option<TriggerStamp> {
         if bytes.len() != 8 {
@@ -143,15 +126,8 @@ impl fmt::Display for TriggerStamp {
 
     // Seconds, a point and eight digits.
     fn fmt<W: fmt::Write>(&self, f: &mut fmt::Formatter<W>) -> fmt::Result {
-        let s = self.seconds();
-        let t = self.ticks();
-        let (a, b, c, d) = (
-            t / 10_000_000 % 10,
-            t / 1_000_000 % 10,
-            t / 100_000 % 10,
-            t / 10_000 % 10,
-        );
-        let (e, g, h, i) = (t / 1_000 % 10, t / 100 % 10, t / 10 % 10, t % 10);
-        write!(f, "{s}.{a}{b}{c}{d}{e}{g}{h}{i}")
+        let seconds = self.seconds();
+        let ticks = self.ticks();
+        write!(f, "{seconds}.{ticks:08}")
     }
 }

@@ -4,6 +4,7 @@
 pub mod fault;
 pub mod frame_number;
 pub mod item;
+pub mod kind;
 pub mod kinds;
 pub mod label;
 pub mod order;

@@ -12,23 +12,16 @@ pub fn read_label<L: Label>(input: &[u8], place: usize) -> Result<(L, usize), Fa
     ensures value { answered result ≡ read_at L.coding input.now place }
     ensures trips { RoundTrips L.coding }
 {
-    let width = L::byte_count();
+    let width = L::WIDTH;
     if input.len().saturating_sub(place) < width {
-        return Err(Fault {
-            refusal: Refusal::InputEnds,
-            place,
-            reader: Reader::Label,
-        });
+        return Err(Reader::Label.fault_at(place, Refusal::InputEnds));
     }
     let end = place + width;
-    match L::from_bytes(&input[place..end]) {
-        Some(label) => Ok((label, end)),
-        None => Err(Fault {
-            refusal: Refusal::NoLabel,
-            place,
-            reader: Reader::Label,
-        }),
-    }
+    let label = L::from_bytes(&input[place..end]).ok_or(Reader::Label.fault_at(
+        place,
+        Refusal::NoLabel,
+    ))?;
+    Ok((label, end))
 }
 
 // Writes a label at a place, and answers the place after it; bytes before and after stay as they are.
@@ -36,13 +29,9 @@ pub fn write_label<L: Label>(label: L, output: &mut [u8], place: usize) -> Resul
     ensures value { answered result ≡ write_at L.coding label output.old place }
     ensures after { output.new ≡ written L.coding label output.old place }
 {
-    let width = L::byte_count();
+    let width = L::WIDTH;
     if output.len().saturating_sub(place) < width {
-        return Err(Fault {
-            refusal: Refusal::OutputTooShort,
-            place: output.len(),
-            reader: Reader::Label,
-        });
+        return Err(Reader::Label.fault_at(output.len(), Refusal::OutputTooShort));
     }
     let end = place + width;
     let _ = label.to_bytes(&mut output[place..end]);

@@ -1,6 +1,9 @@
 // What a call answers when it refuses.
-ghost use Rattle.std.specs.Prelude.{◌≡◌};
+ghost use Rattle.std.specs.Prelude.{◌≡◌, Some, decimal};
 ghost use Rattle.labels.specs.Refusals.{row, RowsDiffer};
+
+use std::error::Error;
+use std::fmt;
 
 // One answer for each thing that is refused, for all calls of the project. Where several fit, the
 // one with the lowest number is given.
@@ -61,3 +64,15 @@ impl Refusal {
         self as u8
     }
 }
+
+// A refusal is printed as its number.
+impl fmt::Display for Refusal {
+    ghost output = { λ r. Some (decimal (row r)) };
+
+    fn fmt<W: fmt::Write>(&self, f: &mut fmt::Formatter<W>) -> fmt::Result {
+        let number = self.number();
+        write!(f, "{number}")
+    }
+}
+
+impl Error for Refusal {}

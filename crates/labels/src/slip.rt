@@ -1,13 +1,13 @@
 // What a board says in one exchange.
 ghost use Rattle.labels.specs.Slip.{same_slip};
-ghost use Rattle.std.proofs.Common.{rules};
+ghost use Rattle.labels.specs.Slips.{slips_compare, slips_tell};
 
 use crate::item::Item;
 use crate::order::Ordered;
 
 // A label with the number of the phase under which it was said; a proposal has number 0.
 // A slot is an `Option<Slip<L>>`: `None` is silence, which means that no slip came.
-#[derive(Clone, Copy)]
+#[derive(Clone, Copy, PartialEq, Eq, Debug)]
 pub struct Slip<L> {
     pub label: L,
     pub phase: u8,
@@ -17,9 +17,7 @@ pub struct Slip<L> {
 impl<L: Ordered> Item for Slip<L> {
     ghost same = { same_slip L.order };
 
-    ghost tells = { Prim.search rules };
+    ghost tells = { slips_tell L.Ordered.total };
 
-    fn is_same(self, other: Slip<L>) -> bool {
-        self.label.is_equal(other.label) && self.phase == other.phase
-    }
+    ghost compares = { slips_compare L.matches_eq L.compares };
 }

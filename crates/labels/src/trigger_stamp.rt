@@ -5,7 +5,7 @@ ghost use Rattle.labels.specs.Refusals.{row};
 use crate::refusal::Refusal;
 
 // Seconds, and ticks of a hundred-millionth of a second.
-#[derive(Clone, Copy, PartialEq, Eq, Debug)]
+#[derive(Clone, Copy, PartialEq, Eq, PartialOrd, Ord, Debug)]
 pub struct TriggerStamp {
     seconds: u32,
     ticks: u32,

@@ -1,8 +1,8 @@
-// Edges of the two kinds: the smallest and the largest label, the last tick, an input that is one byte short.
+// Edges of the two kinds: the smallest and the largest label, the last tick, an input that is one byte short;
+// and the kinds by their numbers.
 use labels::fault::{Fault, Reader};
 use labels::frame_number::FrameNumber;
-use labels::kinds::*;
-use labels::order::Ordered;
+use labels::kind::{Kind, UnknownKind};
 use labels::reading::{read_label, write_label};
 use labels::refusal::Refusal;
 use labels::trigger_stamp::TriggerStamp;
@@ -18,7 +18,7 @@ fn frames_at_both_ends(rt: HostRuntime) -> Result<(), Fail> {
     assert_eq!(rt; (least.number(), next), (0, 5));
     let (most, _) = read_label::<FrameNumber>(&[0xff, 0xff, 0xff, 0xff], 0)?;
     assert_eq!(rt; most.number(), 4_294_967_295);
-    assert!(rt; least.is_below(most));
+    assert!(rt; least < most);
     let mut out = [7u8; 6];
     assert_eq!(rt;
         write_label(FrameNumber::new(0x0102_0304), &mut out, 1),
@@ -34,7 +34,7 @@ fn stamps_at_both_ends(rt: HostRuntime) -> Result<(), Fail> {
     let (most, _) = read_label::<TriggerStamp>(&LAST_TICK, 0)?;
     assert_eq!(rt; (least.seconds(), least.ticks()), (0, 0));
     assert_eq!(rt; (most.seconds(), most.ticks()), (4_294_967_295, 99_999_999));
-    assert!(rt; least.is_below(most));
+    assert!(rt; least < most);
     let mut out = [0u8; 8];
     assert_eq!(rt; write_label(most, &mut out, 0), Ok(8));
     assert_eq!(rt; out, LAST_TICK);
@@ -99,10 +99,22 @@ fn a_fault_is_carried_unchanged(rt: HostRuntime) -> Result<(), Fail> {
 fn seconds_come_before_ticks(rt: HostRuntime) -> Result<(), Fail> {
     let early = TriggerStamp::new(1, 99_999_999)?;
     let late = TriggerStamp::new(2, 0)?;
-    assert!(rt; early.is_below(late));
-    assert!(rt; !late.is_below(early));
-    assert!(rt; late.is_equal(late));
+    assert!(rt; early < late);
+    assert!(rt; !(late < early));
+    assert!(rt; late == late);
     Ok(())
+}
+
+#[test]
+fn kinds_by_number(rt: HostRuntime) {
+    assert_eq!(rt; Kind::try_from(1), Ok(Kind::Frames));
+    assert_eq!(rt; Kind::try_from(2), Ok(Kind::Stamps));
+    for number in [0, 3] {
+        assert_eq!(rt; Kind::try_from(number), Err(UnknownKind(number)));
+    }
+    for kind in [Kind::Frames, Kind::Stamps] {
+        assert_eq!(rt; Kind::try_from(kind.number()), Ok(kind));
+    }
 }
 
 #[test]

@@ -11,7 +11,7 @@ use Rattle.exchanges.specs.Exchange.{Exchange}
 use Rattle.exchanges.specs.Asked.{Kept}
 use Rattle.panel.specs.Slots.{Slot, Comparison}
 use Rattle.panel.specs.Panel.{State, Event, Lengths, phase, table, refusal, step, change, decided, asks, after_asks, Answers, Unaltered, Exchanged}
-use Rattle.panel.specs.declared.size.Size.{Size}
+use Rattle.exchanges.specs.declared.fitting.Size.{Size}
 use Rattle.panel.specs.Modelled.{boards_of, faults_of}
 use Rattle.panel.proofs.Phases.{none_fits}
 use Rattle.panel.proofs.Histories.{step_accepted}

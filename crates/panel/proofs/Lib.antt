@@ -13,3 +13,4 @@ pub mod Examples
 pub mod Told
 pub mod Loops
 pub mod Ending
+pub mod Tests

@@ -1,7 +1,7 @@
 -- The state that a panel holds.
 use Rattle.std.specs.Prelude.{◌≡◌, ℕ, Some, None, Ok, Err, Option, Result}
 use Rattle.labels.specs.declared.refusal.Refusal.{Refusal}
-use Rattle.panel.specs.declared.size.Size.{Size}
+use Rattle.exchanges.specs.declared.fitting.Size.{Size}
 use Rattle.panel.specs.declared.held.Panel.{Panel}
 use Rattle.panel.specs.Panel.{State}
 

@@ -1,20 +1,30 @@
--- What a heard slot is counted for.
-use Rattle.std.specs.Prelude.{ℕ, ◌+◌, ◌*◌, Bool, List, None, slice_index_or}
-use Rattle.panel.specs.declared.vote.Vote.{Vote}
-use Rattle.panel.specs.declared.vote.Vote.TheVariants.{Backs, Matches, Says, Proposes}
-use Rattle.panel.specs.Slots.{Slot, Comparison, has_label, is_slip}
-use Rattle.panel.specs.Phase.{Row, supports, unphased}
+-- Tests of slips, and the rows that they are put to.
+use Rattle.std.specs.Prelude.{◌≡◌, ℕ, ◌+◌, ◌*◌, Bool, false, List, Some, None, take, drop, slice_index_or}
+use Rattle.labels.specs.declared.slip.Slip.{Slip}
+use Rattle.panel.specs.declared.heard.Heard.{Heard}
+use Rattle.panel.specs.Slots.{Slot}
+use Rattle.panel.specs.Phase.{Row}
 
-abbrev pub passes : {L : Type 0} → Comparison L → Vote L → Slot L → Bool
-passes o (Backs v c) x = supports o v c x
-passes o (Matches v c) x = is_slip o v c x
-passes o (Says v) x = has_label o v x
-passes o Proposes x = unphased x
+-- what answers a question about a slip answers P
+abbrev pub Tells : {L : Type 0} → (Slip L → Bool → Type 0) → (Slip L → Bool) → Type 0
+Tells {L} answers P = (s : Slip L) (b : Bool) → answers s b → b ≡ P s
 
--- what was heard from each board, where it lies in memory from a place on
-abbrev pub row_at : {L : Type 0} → List (Slot L) → ℕ → Row L
-row_at h start q = slice_index_or h (start + q) None
+-- and the same about a slot, where silence does not count
+abbrev pub Counts : {L : Type 0} → (Slip L → Bool → Type 0) → (Slot L → Bool) → Type 0
+Counts answers T = (T None ≡ false) × Tells answers (λ s. T (Some s))
+
+-- what answers whether one slip beats another answers R
+abbrev pub Beats : {L : Type 0} → (Slip L → Slip L → Bool → Type 0) → (Slip L → Slip L → Bool) → Type 0
+Beats {L} answers R = (s r : Slip L) (b : Bool) → answers s r b → b ≡ R s r
+
+-- what was heard from each board, in order
+abbrev pub row_of : {L : Type 0} → List (Slot L) → Row L
+row_of l q = slice_index_or l q None
 
 -- what board p heard in firm exchange c, where each fills a block of n rows of n
 abbrev pub block_row : {L : Type 0} → ℕ → ℕ → List (Slot L) → ℕ → Row L
-block_row n p h c = row_at h (c * (n * n) + p * n)
+block_row n p h c = row_of (take n (drop (c * (n * n) + p * n) h))
+
+-- what a board heard, by exchange
+abbrev pub rows : {L : Type 0} → Heard L → ℕ → Row L
+rows h = block_row h.size.boards h.p h.blocks.now

@@ -1,5 +1,5 @@
 // The calls on a panel.
-ghost use Rattle.std.specs.Prelude.{◌≡◌, ◌+◌, ◌*◌, ◌<◌, ◌≤◌, length, is_some, None, nat_lt, slice_index_or};
+ghost use Rattle.std.specs.Prelude.{◌≡◌, ◌+◌, ◌*◌, ◌<◌, length, is_some, None, nat_lt, slice_index_or};
 ghost use Rattle.exchanges.specs.Boards.{count};
 ghost use Rattle.exchanges.specs.Plane.{last_round};
 ghost use Rattle.exchanges.specs.Asked.{Kept};
@@ -12,10 +12,9 @@ ghost use Rattle.panel.specs.Modelled.{state, SizedBy};
 
 use crate::held::Panel;
 use crate::memory::{put_slot, silence, slot_at};
-use crate::size::Size;
 use crate::steps::{ESTIMATE, VERDICT, run_phase};
 use exchanges::exchange::Exchange;
-use exchanges::fitting::fits_counts;
+use exchanges::fitting::Size;
 use labels::order::Ordered;
 use labels::refusal::Refusal;
 use labels::slip::Slip;
@@ -25,24 +24,12 @@ const PHASES: u8 = 8;
 
 const LAST_ROUND: usize = 65_535;
 
-// How many of the first boards have an estimate.
-fn proposals<L: Copy>(slots: &[Option<Slip<L>>], n: usize) -> usize
-    requires { n ≤ 7 }
-    ensures { result ≡ count (λ q. is_some (at slots.now q 0)) n }
-{
-    let mut many: usize = 0;
-    for q in 0..n {
-        many += usize::from(slot_at(slots, 10 * q + ESTIMATE).is_some());
-    }
-    many
-}
-
 // Whether the phase after these would pass the last round.
 fn rounds_lack(round: u16, firm_rounds: u16, phases: u8) -> bool
     requires { phases < 8 }
     ensures { result ≡ nat_lt last_round (round + (phases + 1) * firm_rounds + 2) }
 {
-    LAST_ROUND < round as usize + (phases as usize + 1) * firm_rounds as usize + 2
+    LAST_ROUND < usize::from(round) + (usize::from(phases) + 1) * usize::from(firm_rounds) + 2
 }
 
 impl<'a, L: Ordered> Panel<'a, L> {
@@ -75,17 +62,12 @@ impl<'a, L: Ordered> Panel<'a, L> {
         if self.size.is_some() {
             return Err(Refusal::AlreadyFitted);
         }
-        if !fits_counts(n, t) {
-            return Err(Refusal::BadCounts);
-        }
-        if self.slots.len() < 10 * n as usize {
+        let size = Size::new(n, t).ok_or(Refusal::BadCounts)?;
+        if self.slots.len() < 10 * size.n() {
             return Err(Refusal::MemoryTooShort);
         }
-        silence(self.slots, 10 * n as usize);
-        self.size = Some(Size {
-            boards: n,
-            faults: t,
-        });
+        silence(self.slots, 10 * size.n());
+        self.size = Some(size);
         self.phases = 0;
         Ok(())
     }
@@ -96,10 +78,8 @@ impl<'a, L: Ordered> Panel<'a, L> {
         ensures next { state self.new ≡ step L.order (state self.old) (propose board label) }
         ensures unaltered { Unaltered result self.old self.new }
     {
-        let Some(size) = self.size else {
-            return Err(Refusal::NotFitted);
-        };
-        if board >= size.boards as usize {
+        let size = self.size.ok_or(Refusal::NotFitted)?;
+        if board >= size.n() {
             return Err(Refusal::NoSuchBoard);
         }
         if self.phases > 0 {
@@ -120,16 +100,11 @@ impl<'a, L: Ordered> Panel<'a, L> {
     fn held_verdict(&self, board: usize) -> Result<Option<L>, Refusal>
         ensures { AnswersWith (refusal (state self.now) (verdict board)) (label_of (at self.now.slots.now board verdict_place)) result }
     {
-        let Some(size) = self.size else {
-            return Err(Refusal::NotFitted);
-        };
-        if board >= size.boards as usize {
+        let size = self.size.ok_or(Refusal::NotFitted)?;
+        if board >= size.n() {
             return Err(Refusal::NoSuchBoard);
         }
-        match self.slot(10 * board + VERDICT) {
-            Some(s) => Ok(Some(s.label)),
-            None => Ok(None),
-        }
+        Ok(self.slot(10 * board + VERDICT).map(|s| s.label))
     }
 
     // The verdict of a board, if it holds one. What is promised of verdicts stands here.
@@ -140,12 +115,13 @@ impl<'a, L: Ordered> Panel<'a, L> {
         self.held_verdict(board)
     }
 
-    // How many of the first boards have an estimate.
-    fn proposed(&self, n: usize) -> usize
-        requires { n ≤ 7 }
-        ensures { result ≡ count (λ q. is_some (at self.now.slots.now q 0)) n }
+    // How many of the boards have an estimate.
+    fn proposed(&self, size: Size) -> usize
+        ensures { result ≡ count (λ q. is_some (at self.now.slots.now q 0)) size.boards }
     {
-        proposals(self.slots, n)
+        (0..size.n())
+            .filter(|q| self.slot(10 * *q + ESTIMATE).is_some())
+            .count()
     }
 
     // The panel's size, where the next phase may run with blocks of these lengths.
@@ -159,11 +135,9 @@ impl<'a, L: Ordered> Panel<'a, L> {
         ensures answer { Answers (refusal (state self.now) (phase (E.meaning exchange.now) (sizes heard picks work))) result }
         ensures size { SizedBy self.now.size result }
     {
-        let Some(size) = self.size else {
-            return Err(Refusal::NotFitted);
-        };
-        let n = size.boards as usize;
-        if self.proposed(n) < n {
+        let size = self.size.ok_or(Refusal::NotFitted)?;
+        let n = size.n();
+        if self.proposed(size) < n {
             return Err(Refusal::ProposalMissing);
         }
         if self.phases >= PHASES {
@@ -184,6 +158,7 @@ impl<'a, L: Ordered> Panel<'a, L> {
     // Runs the next phase. The blocks have room for what is heard, n * n slots, for what was heard of
     // the estimates and the earlier picks, 8 * n * n, and for the exchange's workspace. What they
     // hold there afterwards is free; past that they are left as they were.
+    // They stay three parameters: the contract says of each what of it is kept.
     pub fn phase<E: Exchange<Slip<L>>>(
         &mut self,
         exchange: &mut E,
@@ -200,13 +175,12 @@ impl<'a, L: Ordered> Panel<'a, L> {
         ensures work { Kept (E.meaning exchange.old).workspace work.old work.new result }
     {
         let size = self.admit(exchange, heard.len(), picks.len(), work.len())?;
-        let n = size.boards as usize;
+        let n = size.n();
         let space = exchange.workspace();
         let phase = self.phases + 1;
         run_phase(
             self.slots,
-            n,
-            size.faults as usize,
+            size,
             phase,
             exchange,
             &mut heard[0..n * n],

@@ -1,281 +1,168 @@
 // The counts of one board over what it heard, and the choice that they lead to.
-ghost use Rattle.std.specs.Prelude.{◌≡◌, ◌+◌, ◌-◌, ◌*◌, ◌^◌, ◌<◌, ◌≤◌, Some, nat_le};
+ghost use Rattle.std.specs.Prelude.{◌≡◌, ◌+◌, ◌-◌, ◌*◌, ◌<◌, Bool, length, take, drop, nat_le, true};
 ghost use Rattle.exchanges.specs.Boards.{count};
-ghost use Rattle.panel.specs.Slots.{is_slip};
-ghost use Rattle.panel.specs.Phase.{supports, ahead, wins_often, later, better, only, times, most_often, stands, standing, choice_of, heard_enough, best_heard};
-ghost use Rattle.panel.specs.Votes.{passes, row_at, block_row};
+ghost use Rattle.labels.specs.declared.slip.Slip.{Slip};
+ghost use Rattle.panel.specs.Slots.{Slot, has_label, is_slip};
+ghost use Rattle.panel.specs.Phase.{supports, unphased, ahead, wins_often, later, best, only, times, most_often, stands, standing, choice_of, heard_enough, best_heard};
+ghost use Rattle.panel.specs.Votes.{row_of, rows, Tells, Counts, Beats};
 
-use crate::memory::slot_at;
-use crate::vote::Vote;
+use crate::heard::Heard;
 use labels::order::Ordered;
 use labels::slip::Slip;
 
-// Whether a heard slip counts.
-fn counts_slip<L: Ordered>(vote: Vote<L>, s: Slip<L>) -> bool
-    ensures { result ≡ passes L.order vote (Some s) }
+// How many of the slips in a row pass a test; silence never does.
+fn votes<L: Ordered, F: Fn(Slip<L>) -> bool>(row: &[Option<Slip<L>>], test: F) -> usize
+    requires { F.IsAlwaysCallable test }
+    ensures { (T : Slot L → Bool) → Counts (F.post test) T → result ≡ count (λ q. T (row_of row.now q)) (length row.now) }
 {
-    match vote {
-        Vote::Backs(label, phase) => label.is_equal(s.label) || s.phase < phase,
-        Vote::Matches(label, phase) => label.is_equal(s.label) && s.phase == phase,
-        Vote::Says(label) => label.is_equal(s.label),
-        Vote::Proposes => s.phase == 0,
-    }
+    row.iter()
+        .filter(|slot| slot.is_some_and(|s| test(s)))
+        .count()
 }
 
-// Whether a heard slot counts; silence never does.
-fn counts_for<L: Ordered>(vote: Vote<L>, slot: Option<Slip<L>>) -> bool
-    ensures { result ≡ passes L.order vote slot }
+// How many slips in a row have this label and this number.
+fn times_heard<L: Ordered>(row: &[Option<Slip<L>>], label: L, phase: u8) -> usize
+    ensures { result ≡ count (λ q. is_slip L.order label phase (row_of row.now q)) (length row.now) }
 {
-    match slot {
-        None => false,
-        Some(s) => counts_slip(vote, s),
-    }
+    votes(
+        row,
+        |s|
+            ensures { result ≡ is_slip L.order label phase (Some s) }
+        { label == s.label && s.phase == phase },
+    )
 }
 
-// How many of n boards were heard with a slot that counts, sender by sender.
-fn votes<L: Ordered>(heard: &[Option<Slip<L>>], start: usize, n: usize, vote: Vote<L>) -> usize
-    requires { start + n < 2 ^ 64 }
-    ensures { result ≡ count (λ q. passes L.order vote (row_at heard.now start q)) n }
+// How many slips in a row have this label.
+fn times_said<L: Ordered>(row: &[Option<Slip<L>>], label: L) -> usize
+    ensures { result ≡ times L.order (length row.now) (row_of row.now) label }
 {
-    let mut many: usize = 0;
-    for q in 0..n {
-        many += usize::from(counts_for(vote, slot_at(heard, start + q)));
-    }
-    many
+    votes(
+        row,
+        |s|
+            ensures { result ≡ has_label L.order label (Some s) }
+        { label == s.label },
+    )
 }
 
 // Whether a slip has the greater number, or the same number and the smaller label.
+// Kept in words: as a comparison of pairs it would turn one part round.
 fn is_later<L: Ordered>(a: Slip<L>, b: Slip<L>) -> bool
     ensures { result ≡ later L.order a b }
 {
-    b.phase < a.phase || (b.phase == a.phase && a.label.is_below(b.label))
+    b.phase < a.phase || (b.phase == a.phase && a.label < b.label)
 }
 
-// The later of two slots.
-fn later_of<L: Ordered>(a: Option<Slip<L>>, b: Option<Slip<L>>) -> Option<Slip<L>>
-    ensures { result ≡ better (later L.order) a b }
+// The best in a row of the slips that pass a test, by which of two beats the other.
+fn best<L: Ordered, F: Fn(Slip<L>) -> bool, G: Fn(Slip<L>, Slip<L>) -> bool>(
+    row: &[Option<Slip<L>>],
+    test: F,
+    beats: G,
+) -> Option<Slip<L>>
+    requires tests { F.IsAlwaysCallable test }
+    requires compares { G.IsAlwaysCallable beats }
+    ensures { (P : Slip L → Bool) (R : Slip L → Slip L → Bool) → Tells (F.post test) P → Beats (G.post beats) R → result ≡ best R (λ q. only P (row_of row.now q)) (length row.now) }
 {
-    let Some(x) = a else {
-        return b;
-    };
-    let Some(y) = b else {
-        return Some(x);
-    };
-    if is_later(x, y) { Some(x) } else { Some(y) }
+    let mut top: Option<Slip<L>> = None;
+    for slot in row {
+        let slot = slot.filter(|s| test(*s));
+        top = slot.filter(|s| top.is_none_or(|t| beats(*s, t))).or(top);
+    }
+    top
 }
 
 // Whether a label was heard more often than another, or equally often and wins the tie.
-fn is_oftener<L: Ordered>(
-    claims: &[Option<Slip<L>>],
-    start: usize,
-    n: usize,
-    a: Slip<L>,
-    b: Slip<L>,
-) -> bool
-    requires { start + n < 2 ^ 64 }
-    ensures { result ≡ ahead (wins_often L.order) (λ s. times L.order n (row_at claims.now start) s.label) a b }
+fn is_oftener<L: Ordered>(row: &[Option<Slip<L>>], a: Slip<L>, b: Slip<L>) -> bool
+    ensures { result ≡ ahead (wins_often L.order) (λ s. times L.order (length row.now) (row_of row.now) s.label) a b }
 {
-    let x = votes(claims, start, n, Vote::Says(a.label));
-    let y = votes(claims, start, n, Vote::Says(b.label));
-    y < x || (y == x && a.label.is_below(b.label))
-}
-
-// The slot whose label was heard more often.
-fn oftener_of<L: Ordered>(
-    claims: &[Option<Slip<L>>],
-    start: usize,
-    n: usize,
-    a: Option<Slip<L>>,
-    b: Option<Slip<L>>,
-) -> Option<Slip<L>>
-    requires { start + n < 2 ^ 64 }
-    ensures { result ≡ better (ahead (wins_often L.order) (λ s. times L.order n (row_at claims.now start) s.label)) a b }
-{
-    let Some(x) = a else {
-        return b;
-    };
-    let Some(y) = b else {
-        return Some(x);
-    };
-    if is_oftener(claims, start, n, x, y) {
-        Some(x)
-    } else {
-        Some(y)
-    }
+    let x = times_said(row, a.label);
+    let y = times_said(row, b.label);
+    y < x || (y == x && a.label < b.label)
 }
 
 // A claim of the label heard most often.
-fn most_common<L: Ordered>(claims: &[Option<Slip<L>>], start: usize, n: usize) -> Option<Slip<L>>
-    requires { start + n < 2 ^ 64 }
-    ensures { result ≡ most_often L.order n (row_at claims.now start) }
+fn most_common<L: Ordered>(row: &[Option<Slip<L>>]) -> Option<Slip<L>>
+    ensures { result ≡ most_often L.order (length row.now) (row_of row.now) }
 {
-    let mut top = None;
-    for q in 0..n {
-        top = oftener_of(claims, start, n, slot_at(claims, start + q), top);
-    }
-    top
+    best(row, |_| true, |a, b| is_oftener(row, a, b))
 }
 
-// A slot, if it has this number and was heard often enough.
-fn if_enough<L: Ordered>(
-    heard: &[Option<Slip<L>>],
-    start: usize,
-    n: usize,
-    many: usize,
-    phase: u8,
-    slot: Option<Slip<L>>,
-) -> Option<Slip<L>>
-    requires { start + n < 2 ^ 64 }
-    ensures { result ≡ only (heard_enough L.order n many phase (row_at heard.now start)) slot }
-{
-    let Some(s) = slot else {
-        return None;
-    };
-    if s.phase == phase && many <= votes(heard, start, n, Vote::Matches(s.label, phase)) {
-        Some(s)
-    } else {
-        None
+impl<'a, L: Ordered> Heard<'a, L> {
+    // The row of a block; where the memory is short, silence ends it.
+    fn row(&self, c: usize) -> &[Option<Slip<L>>]
+        requires { c < 256 }
+        ensures { result.now ≡ take self.now.size.boards (drop (c * (self.now.size.boards * self.now.size.boards) + self.now.p * self.now.size.boards) self.now.blocks.now) }
+    {
+        let n = self.size.n();
+        let start = (c * (n * n) + self.p * n).min(self.blocks.len());
+        let end = (start + n).min(self.blocks.len());
+        &self.blocks[start..end]
     }
-}
 
-// The slip of this number that was heard often enough, with the smallest label.
-pub(crate) fn heard_often<L: Ordered>(
-    heard: &[Option<Slip<L>>],
-    start: usize,
-    n: usize,
-    many: usize,
-    phase: u8,
-) -> Option<Slip<L>>
-    requires { start + n < 2 ^ 64 }
-    ensures { result ≡ best_heard L.order n many phase (row_at heard.now start) }
-{
-    let mut top = None;
-    for q in 0..n {
-        let slot = if_enough(heard, start, n, many, phase, slot_at(heard, start + q));
-        top = later_of(slot, top);
+    // The slip of this number that was heard often enough, with the smallest label.
+    pub(crate) fn often(&self, many: usize, phase: u8) -> Option<Slip<L>>
+        ensures { result ≡ best_heard L.order self.now.size.boards many phase (rows self.now 0) }
+    {
+        let row = self.row(0);
+        let enough = |s: Slip<L>|
+            ensures { result ≡ heard_enough L.order (length row.entry.now) many phase (row_of row.entry.now) s }
+        { s.phase == phase && many <= times_heard(row, s.label, phase) };
+        best(row, enough, is_later)
     }
-    top
-}
 
-// Whether enough claims of board p's row have the slip's label or a smaller number. The blocks hold
-// what was heard of the claims, and of the picks of each phase.
-fn is_backed<L: Ordered>(
-    n: usize,
-    t: usize,
-    blocks: &[Option<Slip<L>>],
-    p: usize,
-    s: Slip<L>,
-) -> bool
-    requires small { n ≤ 7 }
-    requires fewer { t ≤ n }
-    requires within { p < n }
-    ensures { result ≡ nat_le (n - t) (count (λ q. supports L.order s.label s.phase (row_at blocks.now (p * n) q)) n) }
-{
-    n - t <= votes(blocks, p * n, n, Vote::Backs(s.label, s.phase))
-}
+    // Whether enough claims have the slip's label or a smaller number.
+    fn is_backed(&self, s: Slip<L>) -> bool
+        ensures { result ≡ nat_le (self.now.size.boards - self.now.size.faults) (count (λ q. supports L.order s.label s.phase (rows self.now 0 q)) self.now.size.boards) }
+    {
+        let claims = self.row(0);
+        let backers = votes(
+            claims,
+            |r|
+                ensures { result ≡ supports L.order s.label s.phase (Some r) }
+            { s.label == r.label || r.phase < s.phase },
+        );
+        self.size.n() - self.size.t() <= backers
+    }
 
-// Whether board p heard enough picks of the slip's phase that are the slip.
-fn is_picked<L: Ordered>(
-    n: usize,
-    t: usize,
-    blocks: &[Option<Slip<L>>],
-    p: usize,
-    s: Slip<L>,
-) -> bool
-    requires small { n ≤ 7 }
-    requires fewer { t ≤ n }
-    requires within { p < n }
-    ensures { result ≡ nat_le (t + 1) (count (λ q. is_slip L.order s.label s.phase (block_row n p blocks.now s.phase q)) n) }
-{
-    let start = s.phase as usize * (n * n) + p * n;
-    t + 1 <= votes(blocks, start, n, Vote::Matches(s.label, s.phase))
-}
+    // Whether enough picks of the slip's phase are the slip.
+    fn is_picked(&self, s: Slip<L>) -> bool
+        ensures { result ≡ nat_le (self.now.size.faults + 1) (count (λ q. is_slip L.order s.label s.phase (rows self.now s.phase q)) self.now.size.boards) }
+    {
+        let picks = self.row(usize::from(s.phase));
+        self.size.t() + 1 <= times_heard(picks, s.label, s.phase)
+    }
 
-// Whether a claim of board p's row stands, by the claims and by the picks of its phase.
-fn stands_up<L: Ordered>(
-    n: usize,
-    t: usize,
-    blocks: &[Option<Slip<L>>],
-    p: usize,
-    s: Slip<L>,
-) -> bool
-    requires small { n ≤ 7 }
-    requires fewer { t ≤ n }
-    requires within { p < n }
-    ensures { result ≡ stands L.order n t (row_at blocks.now (p * n)) (block_row n p blocks.now) s }
-{
-    if s.phase == 0 {
-        return false;
+    // Whether a claim stands, by the claims and by the picks of its phase.
+    fn stands_up(&self, s: Slip<L>) -> bool
+        ensures { result ≡ stands L.order self.now.size.boards self.now.size.faults (rows self.now 0) (rows self.now) s }
+    {
+        0 < s.phase && self.is_backed(s) && self.is_picked(s)
     }
-    if !is_backed(n, t, blocks, p, s) {
-        return false;
-    }
-    is_picked(n, t, blocks, p, s)
-}
 
-// A slot, if it is a claim that stands.
-fn if_standing<L: Ordered>(
-    n: usize,
-    t: usize,
-    blocks: &[Option<Slip<L>>],
-    p: usize,
-    slot: Option<Slip<L>>,
-) -> Option<Slip<L>>
-    requires small { n ≤ 7 }
-    requires fewer { t ≤ n }
-    requires within { p < n }
-    ensures { result ≡ only (stands L.order n t (row_at blocks.now (p * n)) (block_row n p blocks.now)) slot }
-{
-    let Some(s) = slot else {
-        return None;
-    };
-    if stands_up(n, t, blocks, p, s) {
-        Some(s)
-    } else {
-        None
+    // The standing claim of the greatest number, with the smallest label there.
+    fn best_standing(&self) -> Option<Slip<L>>
+        ensures { result ≡ standing L.order self.now.size.boards self.now.size.faults (rows self.now 0) (rows self.now) }
+    {
+        let claims = self.row(0);
+        best(claims, |s| self.stands_up(s), is_later)
     }
-}
 
-// The standing claim of the greatest number, with the smallest label there.
-fn best_standing<L: Ordered>(
-    n: usize,
-    t: usize,
-    blocks: &[Option<Slip<L>>],
-    p: usize,
-) -> Option<Slip<L>>
-    requires small { n ≤ 7 }
-    requires fewer { t ≤ n }
-    requires within { p < n }
-    ensures { result ≡ standing L.order n t (row_at blocks.now (p * n)) (block_row n p blocks.now) }
-{
-    let mut top = None;
-    for q in 0..n {
-        let slot = if_standing(n, t, blocks, p, slot_at(blocks, p * n + q));
-        top = later_of(slot, top);
-    }
-    top
-}
-
-// The label that board p chooses.
-pub(crate) fn choose<L: Ordered>(
-    n: usize,
-    t: usize,
-    blocks: &[Option<Slip<L>>],
-    p: usize,
-) -> Option<L>
-    requires small { n ≤ 7 }
-    requires fewer { t ≤ n }
-    requires within { p < n }
-    ensures { result ≡ choice_of L.order n t (row_at blocks.now (p * n)) (block_row n p blocks.now) }
-{
-    if let Some(s) = best_standing(n, t, blocks, p) {
-        return Some(s.label);
-    }
-    if votes(blocks, p * n, n, Vote::Proposes) < n - t {
-        return None;
-    }
-    match most_common(blocks, p * n, n) {
-        Some(s) => Some(s.label),
-        None => None,
+    // The label that the board chooses.
+    pub(crate) fn choose(&self) -> Option<L>
+        ensures { result ≡ choice_of L.order self.now.size.boards self.now.size.faults (rows self.now 0) (rows self.now) }
+    {
+        if let Some(s) = self.best_standing() {
+            return Some(s.label);
+        }
+        let claims = self.row(0);
+        let open = votes(
+            claims,
+            |s|
+                ensures { result ≡ unphased (Some s) }
+            { s.phase == 0 },
+        );
+        if open < self.size.n() - self.size.t() {
+            return None;
+        }
+        most_common(claims).map(|s| s.label)
     }
 }

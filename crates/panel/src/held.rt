@@ -1,5 +1,5 @@
 // What a panel holds.
-use crate::size::Size;
+use exchanges::fitting::Size;
 use labels::slip::Slip;
 
 // Agreement among boards, over memory that is lent to it: ten slots for each board q from place

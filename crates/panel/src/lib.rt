@@ -3,10 +3,9 @@
 
 mod calls;
 mod counting;
+mod heard;
 mod held;
 mod memory;
-mod size;
 mod steps;
-mod vote;
 
 pub use held::Panel;

@@ -3,23 +3,21 @@ ghost use Rattle.std.specs.Prelude.{◌≡◌, ◌*◌, ◌≤◌, ◌++◌, map
 ghost use Rattle.panel.specs.Phase.{as_claim};
 ghost use Rattle.panel.specs.Panel.{column};
 
+use exchanges::fitting::Size;
 use labels::slip::Slip;
 
 // What a slot holds, and silence past the end.
 pub(crate) fn slot_at<L: Copy>(slots: &[Option<Slip<L>>], place: usize) -> Option<Slip<L>>
     ensures { result ≡ slice_index_or slots.now place None }
 {
-    if place < slots.len() {
-        slots[place]
-    } else {
-        None
-    }
+    slots.get(place).copied().flatten()
 }
 
 // Writes a slot; past the end there is none to write.
 pub(crate) fn put_slot<L: Copy>(slots: &mut [Option<Slip<L>>], place: usize, slot: Option<Slip<L>>)
     ensures { slots.new ≡ slice_set slots.old place slot }
 {
+    // Kept by index: after `get_mut` a proof knows no element.
     if place < slots.len() {
         slots[place] = slot;
     }
@@ -30,19 +28,14 @@ pub(crate) fn silence<L: Copy>(slots: &mut [Option<Slip<L>>], many: usize)
     requires { many ≤ length slots.old }
     ensures { slots.new ≡ replicate many None ++ drop many slots.old }
 {
-    for i in 0..many {
-        put_slot(slots, i, None);
-    }
+    slots[..many].fill(None);
 }
 
 // A claim of this phase or a later one counts as silence.
 fn counted_claim<L: Copy>(slot: Option<Slip<L>>, phase: u8) -> Option<Slip<L>>
     ensures { result ≡ as_claim phase slot }
 {
-    match slot {
-        Some(s) if s.phase < phase => Some(s),
-        _ => None,
-    }
+    slot.filter(|s| s.phase < phase)
 }
 
 // Makes silent what does not count as a claim.
@@ -54,19 +47,18 @@ pub(crate) fn keep_claims<L: Copy>(heard: &mut [Option<Slip<L>>], phase: u8)
     }
 }
 
-// Copies what n boards hold at one place to the first n slots.
+// Copies what the boards hold at one place to the first slots.
 pub(crate) fn copy_column<L: Copy>(
     slots: &[Option<Slip<L>>],
     place: usize,
-    n: usize,
+    size: Size,
     sent: &mut [Option<Slip<L>>],
 )
-    requires small { n ≤ 7 }
     requires inside { place ≤ 9 }
-    requires room { n ≤ length sent.old }
-    ensures { take n sent.new ≡ column n slots.now place }
+    requires room { size.boards ≤ length sent.old }
+    ensures { take size.boards sent.new ≡ column size.boards slots.now place }
 {
-    for q in 0..n {
-        put_slot(sent, q, slot_at(slots, 10 * q + place));
+    for (q, slot) in sent[..size.n()].iter_mut().enumerate() {
+        *slot = slot_at(slots, 10 * q + place);
     }
 }

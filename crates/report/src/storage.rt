@@ -1,6 +1,5 @@
 // Memory for any script that can be read.
 use script::model::Record;
-use std::alloc::{AllocError, Global};
 
 // A script has at most so many bytes.
 pub const MOST_BYTES: u64 = 60_000;
@@ -28,12 +27,3 @@ pub(crate) const NO_RECORD: Record = Record {
     lost: 0,
     forged: 0,
 };
-
-// So many copies of a value.
-pub fn filled<X: Copy>(heap: Global, value: X, count: usize) -> Result<Vec<X>, AllocError> {
-    let mut values = Vec::new(heap);
-    for _ in 0..count {
-        values.push(value)?;
-    }
-    Ok(values)
-}

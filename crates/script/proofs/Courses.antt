@@ -1,6 +1,6 @@
 -- Lists of calls on a panel, one after another.
-use Rattle.std.proofs.Common.{◌≡◌, ℕ, zero, suc, ◌+◌, ◌-◌, ◌<◌, ◌≤◌, min, Bool, true, false, cond, T, ltb, List, [], ◌∷◌, ◌++◌, map, length, get_or, take, drop, set, is_some, IsErrAnd, Some, None, Ok, Err, Option, Result, sym, refl, ap, ◌∙◌, subst, append_assoc, append-nil, arith, ltb→lt}
-use Rattle.std.proofs.lemmas.List.{take_more, take-take, take-append-drop, length-take-le, drop_more, set_at}
+use Rattle.std.proofs.Common.{◌≡◌, ℕ, zero, suc, ◌+◌, ◌-◌, ◌<◌, ◌≤◌, Bool, true, false, cond, T, ltb, List, [], ◌∷◌, ◌++◌, map, length, get_or, take, drop, set, is_some, IsErrAnd, Some, None, Ok, Err, Option, Result, sym, refl, ap, ◌∙◌, subst, append_assoc, append-nil, arith, ltb→lt}
+use Rattle.std.proofs.lemmas.List.{take_more_set, take_more, take-append-drop, length-take-le}
 use Rattle.std.proofs.lemmas.List.FromFn.{length-map-range_with_len, map-range_with_len_more}
 use Rattle.std.specs.List.{range_with_len}
 use Rattle.std.specs.Option.{option_or}
@@ -11,8 +11,8 @@ use Rattle.exchanges.specs.Exchange.{Exchange}
 use Rattle.exchanges.specs.declared.tree.Tree.{Tree}
 use Rattle.exchanges.specs.Trees.{tree_meaning, tree_exchange}
 use Rattle.labels.specs.Slip.{same_slip}
-use Rattle.panel.specs.Slots.{Slot, Comparison}
-use Rattle.panel.specs.Panel.{State, Event, after, Lengths, new, change, fit, propose, phase, refusal, step, run, sizes, asks, after_asks}
+use Rattle.panel.specs.Slots.{Slot, Comparison, label_of}
+use Rattle.panel.specs.Panel.{at, verdict_place, State, Event, after, Lengths, new, change, fit, propose, phase, refusal, step, run, sizes, asks, after_asks}
 use Rattle.script.specs.declared.model.Header.{Header}
 use Rattle.script.specs.declared.script_plane.ScriptBackplane.{ScriptBackplane}
 use Rattle.script.specs.Header.{bad_map}
@@ -100,21 +100,14 @@ proposing_more vs i v lt is =
     let long : 0 + length (take i vs) ≡ i = omega (arith, length-take-le i vs (omega arith)) in
     ap (proposing 0) (take_more vs i v lt) ∙ (proposing_append 0 (take i vs) (get_or vs i v ∷ []) ∙ ap (λ k. proposing 0 (take i vs) ++ (propose k (get_or vs i v) ∷ [])) long ∙ ap (λ u. proposing 0 (take i vs) ++ (propose i u ∷ [])) (sym is))
 
--- fewer proposals come first among more
-pub proposing_on : {L : Type 0} (vs : List L) (i n : ℕ) → i ≤ n → Begins (proposing 0 (take i vs)) (proposing 0 (take n vs))
-proposing_on vs i n le =
-    let first : take i (take n vs) ≡ take i vs = take-take i n vs le in
-    let parts : take n vs ≡ take i vs ++ drop i (take n vs) = sym (take-append-drop i (take n vs)) ∙ ap (λ l. l ++ drop i (take n vs)) first in
-    record { rest = proposing (0 + length (take i vs)) (drop i (take n vs)); joins = ap (proposing 0) parts ∙ proposing_append 0 (take i vs) (drop i (take n vs)) }
+-- the first proposals come first among all
+pub proposing_on : {L : Type 0} (vs : List L) (i : ℕ) → Begins (proposing 0 (take i vs)) (proposing 0 vs)
+proposing_on vs i = record { rest = proposing (0 + length (take i vs)) (drop i vs); joins = ap (proposing 0) (sym (take-append-drop i vs)) ∙ proposing_append 0 (take i vs) (drop i vs) }
 
 -- one verdict more
-pub laid_more : {X : Type 0} (f : ℕ → X) (xs old : List X) (k : ℕ) (v : X) → k < length old → xs ≡ laid (map f (range_with_len 0 k)) old → v ≡ f k → set xs k v ≡ laid (map f (range_with_len 0 (k + 1))) old
-laid_more {X} f xs old k v lt e is =
-    let front = map f (range_with_len 0 k) in
-    let long : length front ≡ k = length-map-range_with_len f 0 k in
-    let parts : xs ≡ front ++ (get_or old k v ∷ drop (k + 1) old) = e ∙ (ap (λ n. front ++ drop n old) long ∙ ap (λ l. front ++ l) (drop_more old k v lt)) in
-    ap (λ l. set l k v) parts ∙ (set_at front (get_or old k v) (drop (k + 1) old) v k long ∙ (ap (λ u. front ++ (u ∷ drop (k + 1) old)) is
-    ∙ (sym (append_assoc front (f k ∷ []) (drop (k + 1) old)) ∙ (ap (λ l. l ++ drop (k + 1) old) (sym (map-range_with_len_more f 0 k k (omega arith))) ∙ ap (λ n. map f (range_with_len 0 (k + 1)) ++ drop n old) (sym (length-map-range_with_len f 0 (k + 1)))))))
+pub told_more : {X : Type 0} (f : ℕ → X) (xs : List X) (k : ℕ) (v : X) → k < length xs → take k xs ≡ map f (range_with_len 0 k) → v ≡ f k → take (k + 1) (set xs k v) ≡ map f (range_with_len 0 (k + 1))
+told_more f xs k v lt e is =
+    take_more_set xs k v lt ∙ ap (λ l. l ++ (v ∷ [])) e ∙ ap (λ u. map f (range_with_len 0 k) ++ (u ∷ [])) is ∙ sym (map-range_with_len_more f 0 k k (omega arith))
 
 module _ {L : Type 0} (o : Comparison L) (h p w h' p' w' : ℕ) (eh : h' ≡ h) (ep : p' ≡ p) (ew : w' ≡ w) (s : State L) (x : Exchange (Slip L)) (i : ℕ) where
   -- the first i phases have gone well, and left the panel q and the exchange y
@@ -165,16 +158,6 @@ module _ {L : Type 0} (o : Comparison L) where
       let b = both_none (refusal (new m) f) (first_refusal o (step o (new m) f) (proposing 0 (take h.boards ps))) e in
       phases_boards l (run o (new m) (opening h ps)) x k ∙ (proposing_boards 0 (take h.boards ps) (step o (new m) f) ∙ ap (λ a. (cond (is_some a) (new m) (change o (new m) f)).boards) b.0)
 
-  pub went_on : {U : Type 0} (s : State L) (h k : List (Event L)) (s' s'' : State L) (r : Result U Refusal) → Going o s h s' → Went o s' k s'' r → Went o s (h ++ k) s'' r
-  went_on s h k s' s'' (Ok u) g w = going_on o s h k s' s'' g w
-  went_on s h k s' s'' (Err e) g w = stops o s h k s' (row e) g w
-
-  pub went_open : {U : Type 0} (s : State L) (n t t' : ℕ) (vs : List L) (k : ℕ) (s' s'' : State L) (r : Result U Refusal) → t' ≡ t → refusal s (fit n t') ≡ None → s' ≡ step o s (fit n t') → take k vs ≡ take n vs →
-      Went o s' (proposing 0 (take k vs)) s'' r → Went o s (fit n t ∷ proposing 0 (take n vs)) s'' r
-  went_open s n t t' vs k s' s'' r et a e ek w =
-      subst (λ z. Went o s (fit n z ∷ proposing 0 (take n vs)) s'' r) et (subst (λ z. Went o s (fit n t' ∷ proposing 0 z) s'' r) ek
-      (went_on s (fit n t' ∷ []) (proposing 0 (take k vs)) s' s'' r (ap (λ u. option_or u None) a, e) w))
-
   long : (n m : ℕ) (a b : Option ℕ) → n ≤ m → cond (ltb m n) a b ≡ b
   long n m a b le = by (ltb m n) refl where
     by : (t : Bool) → ltb m n ≡ t → cond t a b ≡ b
@@ -203,11 +186,14 @@ module _ {L : Type 0} (o : Comparison L) where
       not_run r e b f =
           ran_err m (opening h ps ++ (phases o l (after o m (opening h ps)) x k).calls) h.boards k vs r e b le (stops o (new m) (opening h ps) (phases o l (after o m (opening h ps)) x k).calls s' (row e) opened (ap (first_refusal o s') (sym calls_same) ∙ f))
 
-      pub all_run : (s'' : State L) (vs' : List (Option L)) → Going o s' (phases o l s' y k').calls s'' → vs' ≡ laid (verdicts h.boards s'') vs →
+      pub all_run : (s'' : State L) (part vs' : List (Option L)) → Going o s' (phases o l s' y k').calls s'' → part ≡ verdicts (length (take h.boards vs)) s'' → vs' ≡ part ++ drop h.boards vs →
           Ran o m (opening h ps ++ (phases o l (after o m (opening h ps)) x k).calls) h.boards k vs vs' (Ok k')
-      all_run s'' vs' w e =
+      all_run s'' part vs' w e put =
           let all = going_on o (new m) (opening h ps) (phases o l (after o m (opening h ps)) x k).calls s' s'' opened (subst (λ c. Going o s' c s'') calls_same w) in
-          (long h.boards (length vs) (Some 10) _ le ∙ all.0, often, e ∙ ap (λ u. laid (verdicts h.boards u) vs) all.1)
+          let told : part ≡ verdicts h.boards s'' = e ∙ ap (λ n. verdicts n s'') (length-take-le h.boards vs le) in
+          let many : length (verdicts h.boards s'') ≡ h.boards = length-map-range_with_len (λ q. label_of (at s''.slots q verdict_place)) 0 h.boards in
+          let is : vs' ≡ laid (verdicts h.boards s'') vs = put ∙ ap (λ v. v ++ drop h.boards vs) told ∙ ap (λ n. verdicts h.boards s'' ++ drop n vs) (sym many) in
+          (long h.boards (length vs) (Some 10) _ le ∙ all.0, often, is ∙ ap (λ u. laid (verdicts h.boards u) vs) all.1)
 
       pub boards_there : (s'' : State L) → Going o s' (phases o l s' y k').calls s'' → h.boards ≤ s''.boards
       boards_there s'' w =
@@ -219,11 +205,3 @@ module _ {L : Type 0} (o : Comparison L) where
       let plane = ap script_plane ex ∙ (eb ∙ ap (λ d. script h.boards d (take count m.records) m.slips 0) ed) in
       let faults = ef ∙ et in
       λ i. tree_meaning (same_slip o) (faults i) (plane i)
-
--- the first n, or as many as there are
-pub take_there : {X : Type 0} (n k : ℕ) (vs : List X) → k ≡ min n (length vs) → take k vs ≡ take n vs
-take_there zero k vs e = let z : k ≡ zero = omega arith in ap (λ j. take j vs) z
-take_there (suc n) k [] e = let z : k ≡ zero = omega arith in ap (λ j. take j []) z
-take_there (suc n) k (v ∷ vs) e =
-    let z : k ≡ suc (min n (length vs)) = omega arith in
-    ap (λ j. take j (v ∷ vs)) z ∙ ap (λ l. v ∷ l) (take_there n (min n (length vs)) vs refl)

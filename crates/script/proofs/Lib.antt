@@ -1,6 +1,5 @@
 pub mod Follow
 pub mod Back
-pub mod Leaves
 pub mod Loops
 pub mod Moves
 pub mod Putting

@@ -1,16 +1,14 @@
 -- What write answers, once the bytes are formed.
-use Rattle.std.proofs.Common.{◌≡◌, ℕ, ◌<◌, ◌≤◌, List, [], length, take, Ok, Err, Result, sym, refl, ap, ◌∙◌, arith}
+use Rattle.std.proofs.Common.{◌≡◌, ℕ, ◌≤◌, List, [], length, take, Ok, Err, Result, sym, ap, ◌∙◌, arith}
 use Rattle.std.proofs.lemmas.List.{length-take}
-use Rattle.std.proofs.lemmas.Bool.{lt-leb}
 use Rattle.labels.specs.Coding.{Coding, Own}
 use Rattle.labels.specs.Faults.{Numbered}
-use Rattle.labels.specs.declared.fault.Reader.TheVariants.{Script as InScript}
 use Rattle.script.specs.declared.model.Header.{Header}
 use Rattle.script.specs.declared.survey.Survey.{Survey}
 use Rattle.script.specs.Memory.{Lists, formed, last_checks, writes}
 use Rattle.script.specs.Passes.{Puts, surveyed}
 use Rattle.script.specs.Readers.{bind}
-use Rattle.script.specs.Script.{Script, decode, most}
+use Rattle.script.specs.Script.{Script, decode}
 use Rattle.script.proofs.Surveys.{found, same_fault}
 
 -- what was put from the start of a buffer
@@ -21,9 +19,6 @@ put_front bytes new q h =
     let w = length-take q new in
     (omega arith, h.1, omega arith)
 
-decode_long : {L : Type 0} (C : Coding L) (b : List ℕ) → most < length b → decode C b ≡ Err (12, most, InScript)
-decode_long C b h = rw (lt-leb (length b) most h) refl
-
 module _ {L : Type 0} (C : Coding L) (own : Own C) (h : Header) (count : ℕ) (m : Lists L) (size : ℕ) where
   -- what write answers after what read does
   finish : Result (Script L) Numbered → Result ℕ Numbered
@@ -32,12 +27,6 @@ module _ {L : Type 0} (C : Coding L) (own : Own C) (h : Header) (count : ℕ) (m
   finished : (z : Result (Script L) Numbered) → decode C (formed C h count m) ≡ z → finish z ≡ writes C h count m size
   unfolding finish
   finished z e = ap finish (sym e)
-
-  pub writes_long : (new : List ℕ) (e : Numbered) → length new ≡ most → Puts (formed C h count m) [] 0 (Err e) new → Err e ≡ writes C h count m size
-  unfolding finish
-  writes_long new e n k =
-      let v = k.1 in
-      ap Err k.0 ∙ finished (Err (12, most, InScript)) (decode_long C (formed C h count m) (omega arith))
 
   -- the bytes read as a script
   pub writes_read : (s : Script L) → decode C (formed C h count m) ≡ Ok s → (r : Result (Unit {0}) Numbered) → r ≡ last_checks count (length m.records) (length (formed C h count m)) size → bind r (λ _. Ok (length (formed C h count m))) ≡ writes C h count m size

@@ -1,5 +1,6 @@
 -- The two passes of read together.
-use Rattle.std.proofs.Common.{◌≡◌, ℕ, ◌+◌, ◌≤◌, Bool, true, false, cond, eqb, ltb, leb, List, ◌++◌, length, drop, Ok, Err, Result, sym, refl, ap, ◌∙◌, subst, arith, le-leb, leb-true}
+use Rattle.std.proofs.Common.{◌≡◌, ℕ, ◌≤◌, Bool, true, false, cond, leb, List, ◌++◌, length, take, drop, Ok, Err, Result, sym, refl, ap, ◌∙◌, subst, arith, le-leb, leb-true}
+use Rattle.std.proofs.lemmas.List.{length-take-le}
 use Rattle.std.proofs.lemmas.Bool.{and_parts, and_from}
 use Rattle.labels.specs.Faults.{Numbered, require}
 use Rattle.script.specs.declared.model.Header.{Header}
@@ -10,31 +11,13 @@ use Rattle.labels.specs.declared.fault.Reader.TheVariants.{Script as InScript}
 use Rattle.labels.specs.Coding.{Coding, Own, read_at}
 use Rattle.script.specs.Entries.{Entry, entries}
 use Rattle.script.specs.Readers.{Read, then, bind}
-use Rattle.script.specs.Fields.{byte, many}
-use Rattle.script.specs.Header.{header, fields, field, boards_ok, faults_ok, faults_default, bad_ok, phases_ok, bit, bad_map}
+use Rattle.script.specs.Fields.{many}
+use Rattle.script.specs.Header.{header, bad_map}
 use Rattle.script.specs.Memory.{Lists, lists, room, reads, filled, notes, all_slips, laid}
 use Rattle.script.specs.Passes.{placed, counted, surveyed, Filled, Room, Stored}
 use Rattle.script.specs.Script.{Script, decode, most}
-use Rattle.script.proofs.Follow.{then_inv, require_inv, ok_same}
+use Rattle.script.proofs.Follow.{then_inv, require_inv}
 use Rattle.script.proofs.Moves.{many_moves, label_moves}
-
-fields_boards : (n m : ℕ) (b : List ℕ) (p : ℕ) (h : Header) (q : ℕ) → fields n m b p ≡ Ok (h, q) → h.boards ≡ n
-fields_boards n m b p h q e =
-    then_inv (field (bit m 0) (faults_ok n) (faults_default n) b p) _ _ e (λ t q₁ e₁ h₁.
-    then_inv (field (bit m 1) (bad_ok n) 0 b q₁) _ _ h₁ (λ d q₂ e₂ h₂.
-    then_inv (field (bit m 2) phases_ok 8 b q₂) _ _ h₂ (λ f q₃ e₃ h₃.
-    sym (ap (λ z. z.boards) (ok_same (record { boards = n; faults = t; bad = d; phases = f }) h q₃ q h₃).0))))
-
-pub header_boards : (kind : ℕ) (b : List ℕ) (p : ℕ) (h : Header) (q : ℕ) → header kind b p ≡ Ok (h, q) → h.boards ≤ 7
-header_boards kind b p h q e =
-    then_inv (byte InScript b p) _ _ e (λ v p₁ e₁ h₁.
-    then_inv (byte InScript b p₁) _ _ (require_inv (eqb v 1) _ _ _ h₁).1 (λ n p₂ e₂ h₂.
-    let t₂ = require_inv (boards_ok n) _ _ _ h₂ in
-    then_inv (byte InScript b p₂) _ _ t₂.1 (λ c p₃ e₃ h₃.
-    then_inv (byte InScript b p₃) _ _ (require_inv (eqb c kind) _ _ _ h₃).1 (λ m p₄ e₄ h₄.
-    let n₁ = fields_boards n m b p₄ h q (require_inv (leb m 7) _ _ _ h₄).1 in
-    let n₂ = leb-true n 7 (and_parts (ltb 0 n) (leb n 7) t₂.0).1 in
-    omega arith))))
 
 -- what a first pass that succeeds has found
 pub record Found {L : Type 0} (C : Coding L) (b : List ℕ) (v : Survey) : Type 0 where
@@ -46,7 +29,6 @@ pub record Found {L : Type 0} (C : Coding L) (b : List ℕ) (v : Survey) : Type 
   pub counts : v.records ≡ length es
   pub counts_slips : v.slips ≡ length (all_slips es)
   pub counts_labels : length ps ≡ v.head.boards
-  pub few : v.head.boards ≤ 7
   pub decodes : decode C b ≡ Ok (record { head = v.head; proposals = ps; records = es })
 
 module _ {L : Type 0} (C : Coding L) (own : Own C) (b : List ℕ) where
@@ -73,7 +55,6 @@ module _ {L : Type 0} (C : Coding L) (own : Own C) (b : List ℕ) where
         counts = refl;
         counts_slips = refl;
         counts_labels = (many_moves (read_at C) (label_moves C own) h.boards b p ps q e₂).2;
-        few = header_boards C.kind b 0 h p e₁;
         decodes = rw (t.0, e₁, e₂, e₃) refl;
       } in
       subst (Found C b) o made)))
@@ -100,60 +81,58 @@ module _ {L : Type 0} (C : Coding L) (own : Own C) (b : List ℕ) where
   pub reads_fault : (g : Numbered) (m : Lists L) → Err g ≡ surveyed C b → (Err g ≡ reads C b m) × (m ≡ filled (decode C b) m)
   reads_fault g m e = let d = sym (same_fault g e) in (ap (λ z. bind z (λ s. require (room s m) (10, length b, InScript) (Ok (s.head, length s.records)))) d, ap (λ z. filled z m) d)
 
-  module _ (v : Survey) (f : Found C b v) where
-    whole : Script L
-    whole = record { head = v.head; proposals = f.ps; records = f.es }
+module _ {L : Type 0} {C : Coding L} {b : List ℕ} {v : Survey} (f : Found C b v) where
+  whole : Script L
+  whole = record { head = v.head; proposals = f.ps; records = f.es }
 
-    -- what read does, once the script is known and whether there is room
-    answers : (m : Lists L) (t : Bool) → room whole m ≡ t → (require t (10, length b, InScript) (Ok (v.head, length f.es)) ≡ reads C b m) × (cond t (lists (laid f.ps m.proposals) (laid (notes f.es) m.records) (laid (all_slips f.es) m.slips)) m ≡ filled (decode C b) m)
-    unfolding whole
-    answers m t e = (
-      ap (λ k. require k (10, length b, InScript) (Ok (v.head, length f.es))) (sym e) ∙ ap (λ z. bind z (λ s. require (room s m) (10, length b, InScript) (Ok (s.head, length s.records)))) (sym f.decodes),
-      ap (λ k. cond k (lists (laid f.ps m.proposals) (laid (notes f.es) m.records) (laid (all_slips f.es) m.slips)) m) (sym e) ∙ ap (λ z. filled z m) (sym f.decodes),
-    )
+  -- what read does, once the script is known and whether there is room
+  answers : (m : Lists L) (t : Bool) → room whole m ≡ t → (require t (10, length b, InScript) (Ok (v.head, length f.es)) ≡ reads C b m) × (cond t (lists (laid f.ps m.proposals) (laid (notes f.es) m.records) (laid (all_slips f.es) m.slips)) m ≡ filled (decode C b) m)
+  unfolding whole
+  answers m t e = (
+    ap (λ k. require k (10, length b, InScript) (Ok (v.head, length f.es))) (sym e) ∙ ap (λ z. bind z (λ s. require (room s m) (10, length b, InScript) (Ok (s.head, length s.records)))) (sym f.decodes),
+    ap (λ k. cond k (lists (laid f.ps m.proposals) (laid (notes f.es) m.records) (laid (all_slips f.es) m.slips)) m) (sym e) ∙ ap (λ z. filled z m) (sym f.decodes),
+  )
 
-    no_room : (m : Lists L) (t : Bool) → room whole m ≡ t → (v.head.boards ≤ length m.proposals → v.records ≤ length m.records → v.slips ≤ length m.slips → ⊥) → t ≡ false
-    unfolding whole
-    no_room m true e h =
-        let a = and_parts (leb (length f.ps) (length m.proposals)) _ e in
-        let c = and_parts (leb (length f.es) (length m.records)) _ a.1 in
-        let i = leb-true _ _ a.0 in
-        let j = leb-true _ _ c.0 in
-        let k = leb-true _ _ c.1 in
-        let x = f.counts in
-        let y = f.counts_slips in
-        let z = f.counts_labels in
-        absurd (h (omega arith) (omega arith) (omega arith))
-    no_room m false e h = refl
+  no_room : (m : Lists L) (t : Bool) → room whole m ≡ t → (v.head.boards ≤ length m.proposals → v.records ≤ length m.records → v.slips ≤ length m.slips → ⊥) → t ≡ false
+  unfolding whole
+  no_room m true e h =
+      let a = and_parts (leb (length f.ps) (length m.proposals)) _ e in
+      let c = and_parts (leb (length f.es) (length m.records)) _ a.1 in
+      let i = leb-true _ _ a.0 in
+      let j = leb-true _ _ c.0 in
+      let k = leb-true _ _ c.1 in
+      let x = f.counts in
+      let y = f.counts_slips in
+      let z = f.counts_labels in
+      absurd (h (omega arith) (omega arith) (omega arith))
+  no_room m false e h = refl
 
-    pub reads_short : (m : Lists L) → (v.head.boards ≤ length m.proposals → v.records ≤ length m.records → v.slips ≤ length m.slips → ⊥) → (Err (10, length b, InScript) ≡ reads C b m) × (m ≡ filled (decode C b) m)
-    reads_short m h = answers m false (no_room m (room whole m) refl h)
+  pub reads_short : (m : Lists L) → (v.head.boards ≤ length m.proposals → v.records ≤ length m.records → v.slips ≤ length m.slips → ⊥) → (Err (10, length b, InScript) ≡ reads C b m) × (m ≡ filled (decode C b) m)
+  reads_short m h = answers m false (no_room m (room whole m) refl h)
 
-    pub no_label_fault : (g : Numbered) (old new : List L) → Filled (many v.head.boards (read_at C) b v.start) 0 v.head.boards (Err g) old new → ⊥
-    no_label_fault g old new h = let i = (subst (λ z. Filled z 0 v.head.boards (Err g) old new) f.labels_are h).0 in let z : ◌≡◌ {A = ℕ} 0 1 = cc (i) in omega arith
+  labels_at : (m : Lists L) → v.head.boards ≤ length m.proposals → many (length (take v.head.boards m.proposals)) (read_at C) b v.start ≡ Ok (f.ps, v.rest)
+  labels_at m a = ap (λ k. many k (read_at C) b v.start) (length-take-le v.head.boards m.proposals a) ∙ f.labels_are
 
-    module _ (bad : ℕ) (w : bad ≡ bad_map v.head) where
-      entries_at : entries C v.head.boards bad (length b) 0 0 b v.rest ≡ Ok (f.es, f.last)
-      entries_at = ap (λ z. entries C v.head.boards z (length b) 0 0 b v.rest) w ∙ f.entries_are
+  pub no_label_fault : (m : Lists L) → v.head.boards ≤ length m.proposals → (g : Numbered) (new : List L) → Filled (many (length (take v.head.boards m.proposals)) (read_at C) b v.start) (Err g) new → ⊥
+  no_label_fault m a g new h = let i = (subst (λ z. Filled z (Err g) new) (labels_at m a) h).0 in let z : ◌≡◌ {A = ℕ} 0 1 = cc (i) in omega arith
 
-      pub enough : (m k : ℕ) → v.records ≤ m → v.slips ≤ k → Room (entries C v.head.boards bad (length b) 0 0 b v.rest) m k
-      enough m k h i = let x = f.counts in let y = f.counts_slips in subst (λ z. Room z m k) (sym entries_at) (omega arith, omega arith)
+  pub enough : (m k : ℕ) → v.records ≤ m → v.slips ≤ k → Room (entries C v.head.boards (bad_map v.head) (length b) 0 0 b v.rest) m k
+  enough m k h i = let x = f.counts in let y = f.counts_slips in subst (λ z. Room z m k) (sym f.entries_are) (omega arith, omega arith)
 
-      pub no_entry_fault : (g : Numbered) (a c : List Record) (d e : List (Slip L)) → Stored (entries C v.head.boards bad (length b) 0 0 b v.rest) (Err g) a c d e → ⊥
-      no_entry_fault g a c d e h = let i = (subst (λ z. Stored z (Err g) a c d e) entries_at h).0 in let z : ◌≡◌ {A = ℕ} 0 1 = cc (i) in omega arith
+  pub no_entry_fault : (g : Numbered) (a c : List Record) (d e : List (Slip L)) → Stored (entries C v.head.boards (bad_map v.head) (length b) 0 0 b v.rest) (Err g) a c d e → ⊥
+  no_entry_fault g a c d e h = let i = (subst (λ z. Stored z (Err g) a c d e) f.entries_are h).0 in let z : ◌≡◌ {A = ℕ} 0 1 = cc (i) in omega arith
 
-      pub reads_all : (q : ℕ) (m : Lists L) (ps : List L) (rs : List Record) (ss : List (Slip L)) → v.head.boards ≤ length m.proposals → v.records ≤ length m.records → v.slips ≤ length m.slips → Filled (many v.head.boards (read_at C) b v.start) 0 v.head.boards (Ok q) m.proposals ps → Stored (entries C v.head.boards bad (length b) 0 0 b v.rest) (Ok tt) m.records rs m.slips ss → (Ok (v.head, v.records) ≡ reads C b m) × (lists ps rs ss ≡ filled (decode C b) m)
-      unfolding whole
-      reads_all q m ps rs ss a c d h i =
-          let x = f.counts in
-          let y = f.counts_slips in
-          let z = f.counts_labels in
-          let a₁ : length f.ps ≤ length m.proposals = omega arith in
-          let c₁ : length f.es ≤ length m.records = omega arith in
-          let d₁ : length (all_slips f.es) ≤ length m.slips = omega arith in
-          let fits : room whole m ≡ true = and_from _ _ (le-leb _ _ a₁) (and_from _ _ (le-leb _ _ c₁) (le-leb _ _ d₁)) in
-          let o = answers m true fits in
-          let n : 0 + v.head.boards ≡ length f.ps = omega arith in
-          let p : ps ≡ laid f.ps m.proposals = (subst (λ t. Filled t 0 v.head.boards (Ok q) m.proposals ps) f.labels_are h).1 ∙ ap (λ k. f.ps ++ drop k m.proposals) n in
-          let s = subst (λ t. Stored t (Ok tt) m.records rs m.slips ss) entries_at i in
-          (ap (λ k. Ok (v.head, k)) x ∙ o.0, (λ j. lists (p j) (s.1 j) (s.2 j)) ∙ o.1)
+  pub reads_all : (q : ℕ) (m : Lists L) (own ps : List L) (rs : List Record) (ss : List (Slip L)) → v.head.boards ≤ length m.proposals → v.records ≤ length m.records → v.slips ≤ length m.slips → Filled (many (length (take v.head.boards m.proposals)) (read_at C) b v.start) (Ok q) own → ps ≡ own ++ drop v.head.boards m.proposals → Stored (entries C v.head.boards (bad_map v.head) (length b) 0 0 b v.rest) (Ok tt) m.records rs m.slips ss → (Ok (v.head, v.records) ≡ reads C b m) × (lists ps rs ss ≡ filled (decode C b) m)
+  unfolding whole
+  reads_all q m own ps rs ss a c d h put i =
+      let x = f.counts in
+      let y = f.counts_slips in
+      let z = f.counts_labels in
+      let a₁ : length f.ps ≤ length m.proposals = omega arith in
+      let c₁ : length f.es ≤ length m.records = omega arith in
+      let d₁ : length (all_slips f.es) ≤ length m.slips = omega arith in
+      let fits : room whole m ≡ true = and_from _ _ (le-leb _ _ a₁) (and_from _ _ (le-leb _ _ c₁) (le-leb _ _ d₁)) in
+      let o = answers m true fits in
+      let p : ps ≡ laid f.ps m.proposals = put ∙ ap (λ l. l ++ drop v.head.boards m.proposals) (subst (λ t. Filled t (Ok q) own) (labels_at m a) h).1 ∙ ap (λ k. f.ps ++ drop k m.proposals) (sym z) in
+      let s = subst (λ t. Stored t (Ok tt) m.records rs m.slips ss) f.entries_are i in
+      (ap (λ k. Ok (v.head, k)) x ∙ o.0, (λ j. lists (p j) (s.1 j) (s.2 j)) ∙ o.1)

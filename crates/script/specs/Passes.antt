@@ -1,5 +1,5 @@
 -- What the passes over a script answer and leave.
-use Rattle.std.specs.Prelude.{◌≡◌, ℕ, ◌+◌, ◌<◌, ◌≤◌, List, ◌++◌, length, take, drop, Ok, Err, Result, nat_le}
+use Rattle.std.specs.Prelude.{◌≡◌, ℕ, ◌+◌, ◌<◌, ◌≤◌, List, ◌++◌, length, take, Ok, Err, Result, nat_le}
 use Rattle.labels.specs.Coding.{Coding, read_at}
 use Rattle.labels.specs.Faults.{Numbered, require}
 use Rattle.labels.specs.declared.fault.Reader.TheVariants.{Script as InScript}
@@ -37,10 +37,10 @@ surveyed C b =
     bind (counted (entries C h.boards (bad_map h) (length b) 0 0 b q)) (λ c.
     Ok (record { head = h; start = p; rest = q; records = c.0; slips = c.1 })))))
 
--- where the values can be read, they stand in the list from a place on, and the rest is as before
-abbrev pub Filled : {X : Type 0} → Read (List X) → ℕ → ℕ → Result ℕ Numbered → List X → List X → Type 0
-Filled (Ok x) at n r old new = (r ≡ Ok x.1) × (new ≡ take at old ++ (x.0 ++ drop (at + n) old))
-Filled (Err e) at n r old new = r ≡ Err e
+-- where the values can be read, they are the list
+abbrev pub Filled : {X : Type 0} → Read (List X) → Result ℕ Numbered → List X → Type 0
+Filled (Ok x) r new = (r ≡ Ok x.1) × (new ≡ x.0)
+Filled (Err e) r new = r ≡ Err e
 
 -- the records can be read, and there is room for them
 abbrev pub Room : {L : Type 0} → Read (List (Entry L)) → ℕ → ℕ → Type 0

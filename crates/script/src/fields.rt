@@ -1,12 +1,12 @@
 // Single fields. A reader takes bytes and a place, and answers a value and the place after it; a
 // writer puts bytes into a buffer at a place, and answers the place after them.
-ghost use Rattle.std.specs.Prelude.{◌≡◌, ℕ, ◌+◌, ◌^◌, ◌<◌, ◌≤◌, length};
+// Kept a pair, and no cursor: it is what the public `read_label` and `write_label` take and answer.
+ghost use Rattle.std.specs.Prelude.{◌≡◌};
 ghost use Rattle.labels.specs.Faults.{answered};
 ghost use Rattle.script.specs.Entries.{slip, slip_bytes};
 ghost use Rattle.script.specs.Fields.{byte, pair};
 ghost use Rattle.script.specs.Passes.{Puts};
 
-use crate::refusing::in_script;
 use labels::fault::{Fault, Reader};
 use labels::label::Label;
 use labels::reading::{read_label, write_label};
@@ -16,27 +16,19 @@ use labels::slip::Slip;
 pub(crate) fn read_byte(reader: Reader, b: &[u8], p: usize) -> Result<(u8, usize), Fault>
     ensures { answered result ≡ byte reader b.now p }
 {
-    if p >= b.len() {
-        return Err(Fault {
-            refusal: Refusal::InputEnds,
-            place: p,
-            reader,
-        });
-    }
-    Ok((b[p], p + 1))
+    let Some(byte) = b.get(p) else {
+        return Err(reader.fault_at(p, Refusal::InputEnds));
+    };
+    Ok((*byte, p + 1))
 }
 
 pub(crate) fn read_pair(reader: Reader, b: &[u8], p: usize) -> Result<(u16, usize), Fault>
     ensures { answered result ≡ pair reader b.now p }
 {
-    if p >= b.len() || b.len() - p < 2 {
-        return Err(Fault {
-            refusal: Refusal::InputEnds,
-            place: p,
-            reader,
-        });
-    }
-    Ok((b[p] as u16 * 256 + b[p + 1] as u16, p + 2))
+    let Some(pair) = b.get(p..).and_then(|rest| rest.first_chunk::<2>()) else {
+        return Err(reader.fault_at(p, Refusal::InputEnds));
+    };
+    Ok((u16::from_be_bytes(*pair), p + 2))
 }
 
 pub(crate) fn read_slip<L: Label>(b: &[u8], p: usize) -> Result<(Slip<L>, usize), Fault>
@@ -51,7 +43,7 @@ pub(crate) fn put_bytes(bytes: &[u8], out: &mut [u8], at: usize) -> Result<usize
     ensures { Puts bytes.now out.old at (answered result) out.new }
 {
     if at > out.len() || out.len() - at < bytes.len() {
-        return Err(in_script(Refusal::ScriptTooLong, 60_000));
+        return Err(Reader::Script.fault_at(60_000, Refusal::ScriptTooLong));
     }
     out[at..at + bytes.len()].copy_from_slice(bytes);
     Ok(at + bytes.len())
@@ -60,10 +52,7 @@ pub(crate) fn put_bytes(bytes: &[u8], out: &mut [u8], at: usize) -> Result<usize
 pub(crate) fn put_label<L: Label>(label: L, out: &mut [u8], at: usize) -> Result<usize, Fault>
     ensures { Puts (L.coding.write label) out.old at (answered result) out.new }
 {
-    match write_label(label, out, at) {
-        Ok(end) => Ok(end),
-        Err(_) => Err(in_script(Refusal::ScriptTooLong, 60_000)),
-    }
+    write_label(label, out, at).map_err(|_| Reader::Script.fault_at(60_000, Refusal::ScriptTooLong))
 }
 
 pub(crate) fn put_slip<L: Label>(slip: Slip<L>, out: &mut [u8], at: usize) -> Result<usize, Fault>

@@ -1,5 +1,5 @@
 // The bytes of a script in memory, formed in a buffer.
-ghost use Rattle.std.specs.Prelude.{◌≡◌, ℕ, ◌+◌, ◌<◌, ◌≤◌, [], ◌∷◌, length, take};
+ghost use Rattle.std.specs.Prelude.{◌≡◌};
 ghost use Rattle.labels.specs.Faults.{answered};
 ghost use Rattle.script.specs.Entries.{fixed_bytes, entry_bytes};
 ghost use Rattle.script.specs.Fields.{joined};
@@ -8,7 +8,7 @@ ghost use Rattle.script.specs.Memory.{lists, with_slips, formed};
 ghost use Rattle.script.specs.Passes.{Puts};
 
 use crate::fields::put_bytes;
-use crate::model::{Header, Record};
+use crate::model::{Header, Record, Script};
 use crate::rows::{Labels, Slips, put_row};
 use crate::tally::map_count;
 use labels::fault::Fault;
@@ -18,10 +18,7 @@ use labels::slip::Slip;
 fn put_field(field: Option<u8>, out: &mut [u8], at: usize) -> Result<usize, Fault>
     ensures { Puts (listed field) out.old at (answered result) out.new }
 {
-    match field {
-        Some(value) => put_bytes(&[value], out, at),
-        None => Ok(at),
-    }
+    put_bytes(field.as_slice(), out, at)
 }
 
 // The map of the header fields that stand.
@@ -45,56 +42,46 @@ fn put_header(kind: u8, head: Header, out: &mut [u8]) -> Result<usize, Fault>
 fn put_fixed(note: Record, out: &mut [u8], at: usize) -> Result<usize, Fault>
     ensures { Puts (fixed_bytes note) out.old at (answered result) out.new }
 {
-    let high = (note.round / 256) as u8;
-    let low = (note.round % 256) as u8;
+    let [high, low] = note.round.to_be_bytes();
     put_bytes(&[high, low, note.sender, note.lost, note.forged], out, at)
 }
 
-// The first so many records, each with its slips, to where the slips end too soon.
+// The records, each with its slips, to where the slips end too soon.
 fn put_records<L: Label>(
     records: &[Record],
-    n: usize,
     slips: &[Slip<L>],
     out: &mut [u8],
     at: usize,
 ) -> Result<usize, Fault>
-    requires { n ≤ length records.now }
-    ensures { Puts (joined (entry_bytes L.coding) (with_slips (take n records.now) slips.now)) out.old at (answered result) out.new }
+    ensures { Puts (joined (entry_bytes L.coding) (with_slips records.now slips.now)) out.old at (answered result) out.new }
 {
     let mut p = at;
-    let mut used = 0usize;
-    for i in 0..n {
-        let note = records[i];
+    let mut rest = slips;
+    for note in records {
         let due = map_count(note.forged);
-        let there = due.min(slips.len() - used);
-        let q = put_fixed(note, out, p)?;
-        p = put_row::<Slip<L>, Slips>(slips, used, there, out, q)?;
-        if there < due {
+        let (own, left) = rest.split_at(due.min(rest.len()));
+        let q = put_fixed(*note, out, p)?;
+        p = put_row::<Slip<L>, Slips>(own, out, q)?;
+        if own.len() < due {
             return Ok(p);
         }
-        used += due;
+        rest = left;
     }
     Ok(p)
 }
 
 // The bytes of the script in memory, to where a list ends too soon; answers how many there are, or
 // that they pass the end of the buffer.
-pub(crate) fn form<L: Label>(
-    head: Header,
-    proposals: &[L],
-    records: &[Record],
-    count: usize,
-    slips: &[Slip<L>],
-    out: &mut [u8],
-) -> Result<usize, Fault>
-    ensures { Puts (formed L.coding head count (lists proposals.now records.now slips.now)) out.old 0 (answered result) out.new }
+pub(crate) fn form<L: Label>(script: Script<L>, out: &mut [u8]) -> Result<usize, Fault>
+    ensures { Puts (formed L.coding script.entry.head script.entry.count (lists script.entry.proposals.now script.entry.records.now script.entry.slips.now)) out.old 0 (answered result) out.new }
 {
-    let start = put_header(L::kind_number(), head, out)?;
-    let n = head.boards as usize;
-    let there = n.min(proposals.len());
-    let rest = put_row::<L, Labels>(proposals, 0, there, out, start)?;
+    let start = put_header(L::KIND.number(), script.head, out)?;
+    let n = script.head.boards as usize;
+    let there = n.min(script.proposals.len());
+    let rest = put_row::<L, Labels>(&script.proposals[..there], out, start)?;
     if there < n {
         return Ok(rest);
     }
-    put_records(records, count.min(records.len()), slips, out, rest)
+    let records = &script.records[..script.count.min(script.records.len())];
+    put_records(records, script.slips, out, rest)
 }

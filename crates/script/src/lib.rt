@@ -7,7 +7,6 @@ mod heads;
 pub mod model;
 pub mod reading;
 mod records;
-mod refusing;
 mod rows;
 mod rules;
 pub mod running;

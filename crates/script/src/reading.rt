@@ -1,43 +1,31 @@
 // The script reader: a pass that checks all, and a pass that fills.
-ghost use Rattle.std.specs.Prelude.{◌≡◌, ℕ, ◌+◌, ◌^◌, ◌<◌, ◌≤◌, length};
+ghost use Rattle.std.specs.Prelude.{◌≡◌};
 ghost use Rattle.labels.specs.Faults.{answered};
-ghost use Rattle.script.specs.Header.{bad_map};
 ghost use Rattle.script.specs.Memory.{lists, reads, filled, WritesBack};
 ghost use Rattle.script.specs.Passes.{surveyed};
 ghost use Rattle.script.specs.Script.{decode};
 
 use crate::heads::read_header;
 use crate::model::{Header, Record};
-use crate::refusing::in_script;
 use crate::rows::{Labels, fill_row, skip_row};
 use crate::store::fill_entries;
 use crate::survey::Survey;
 use crate::tally::count_entries;
-use labels::fault::Fault;
+use labels::fault::{Fault, Reader};
 use labels::label::Label;
 use labels::refusal::Refusal;
 use labels::slip::Slip;
-
-// The map of bad boards.
-pub(crate) fn bad_boards(head: Header) -> u8
-    ensures { result ≡ bad_map head }
-{
-    match head.bad {
-        Some(map) => map,
-        None => 0,
-    }
-}
 
 // The first pass: every fault but that of memory.
 pub(crate) fn survey<L: Label>(input: &[u8]) -> Result<Survey, Fault>
     ensures { answered result ≡ surveyed L.coding input.now }
 {
     if input.len() > 60_000 {
-        return Err(in_script(Refusal::ScriptTooLong, 60_000));
+        return Err(Reader::Script.fault_at(60_000, Refusal::ScriptTooLong));
     }
-    let (head, start) = read_header(L::kind_number(), input, 0)?;
+    let (head, start) = read_header(L::KIND.number(), input, 0)?;
     let rest = skip_row::<L, Labels>(head.boards as usize, input, start)?;
-    let (records, slips) = count_entries::<L>(head.boards, bad_boards(head), input, rest)?;
+    let (records, slips) = count_entries::<L>(head, input, rest)?;
     Ok(Survey {
         head,
         start,
@@ -63,16 +51,9 @@ pub fn read<L: Label>(
     let found = survey::<L>(input)?;
     let n = found.head.boards as usize;
     if proposals.len() < n || records.len() < found.records || slips.len() < found.slips {
-        return Err(in_script(Refusal::MemoryTooShort, input.len()));
+        return Err(Reader::Script.fault_at(input.len(), Refusal::MemoryTooShort));
     }
-    let _ = fill_row::<L, Labels>(n, input, found.start, 0, proposals)?;
-    fill_entries::<L>(
-        found.head.boards,
-        bad_boards(found.head),
-        input,
-        found.rest,
-        records,
-        slips,
-    )?;
+    let _ = fill_row::<L, Labels>(input, found.start, &mut proposals[..n])?;
+    fill_entries::<L>(found.head, input, found.rest, records, slips)?;
     Ok((found.head, found.records))
 }

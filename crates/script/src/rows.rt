@@ -1,6 +1,6 @@
 // Rows of like fields, labels or slips: a pass that only checks, one that fills a list, and one that
 // puts a list into a buffer.
-ghost use Rattle.std.specs.Prelude.{◌≡◌, ℕ, ◌+◌, ◌^◌, ◌<◌, ◌≤◌, List, ◌++◌, length, take, drop};
+ghost use Rattle.std.specs.Prelude.{◌≡◌, ℕ, List, length};
 ghost use Rattle.labels.specs.Coding.{read_at};
 ghost use Rattle.labels.specs.Faults.{answered};
 ghost use Rattle.script.specs.Entries.{slip, slip_bytes};
@@ -72,40 +72,35 @@ pub(crate) fn skip_row<X: Copy, R: Row<X>>(n: usize, b: &[u8], start: usize) -> 
     Ok(p)
 }
 
-// So many values into a list from one place on; what stands before and past them is left.
+// Values into a list, one for each place of it.
+// Kept beside `skip_row`: a pass that only checks has no list, and its count is of what is read.
 pub(crate) fn fill_row<X: Copy, R: Row<X>>(
-    n: usize,
     b: &[u8],
     start: usize,
-    from: usize,
     list: &mut [X],
 ) -> Result<usize, Fault>
-    requires { from + n ≤ length list.old }
-    ensures { Filled (many n R.reader b.now start) from n (answered result) list.old list.new }
+    ensures { Filled (many (length list.old) R.reader b.now start) (answered result) list.new }
 {
     let mut p = start;
-    for i in 0..n {
+    for slot in list.iter_mut() {
         let (x, q) = R::read_one(b, p)?;
-        list[from + i] = x;
+        *slot = x;
         p = q;
     }
     Ok(p)
 }
 
-// So many values of a list, from one on, into a buffer.
+// The values of a list into a buffer.
 pub(crate) fn put_row<X: Copy, R: Row<X>>(
     list: &[X],
-    from: usize,
-    n: usize,
     out: &mut [u8],
     at: usize,
 ) -> Result<usize, Fault>
-    requires { from + n ≤ length list.now }
-    ensures { Puts (joined R.bytes (take n (drop from list.now))) out.old at (answered result) out.new }
+    ensures { Puts (joined R.bytes list.now) out.old at (answered result) out.new }
 {
     let mut p = at;
-    for i in 0..n {
-        p = R::put_one(list[from + i], out, p)?;
+    for x in list {
+        p = R::put_one(*x, out, p)?;
     }
     Ok(p)
 }

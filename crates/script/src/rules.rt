@@ -1,8 +1,9 @@
 // What the records of one round say of each sender.
-ghost use Rattle.std.specs.Prelude.{◌≡◌, ℕ, ◌+◌, ◌%◌, ◌^◌, ◌<◌, ◌≤◌, [], ◌∷◌, length, is_some, if◌then◌else◌, None, count_ones, slice_index_or};
+ghost use Rattle.std.specs.Prelude.{◌≡◌, ℕ, ◌+◌, ◌%◌, ◌^◌, ◌<◌, [], ◌∷◌, length, is_some, if◌then◌else◌, None, count_ones, slice_index_or};
 ghost use Rattle.script.specs.ScriptAnswers.{first_rule};
 
 use crate::model::Record;
+use crate::tally::map_count;
 
 // The maps of the first record for a round and sender, and the place of its first forged item.
 #[derive(Clone, Copy)]
@@ -12,22 +13,14 @@ pub(crate) struct Rule {
     pub(crate) start: usize,
 }
 
-// How many bits stand in the map.
-fn bits(map: u8) -> usize
-    ensures value { result ≡ count_ones map }
-    ensures bound { result ≤ 8 }
-{
-    map.count_ones() as usize
-}
-
 // How many bits below the board's stand in the map.
 pub(crate) fn rank(map: u8, board: usize) -> usize
     ensures { result ≡ count_ones (map % 2 ^ board) }
 {
     if board >= 8 {
-        return bits(map);
+        return map_count(map);
     }
-    bits(map % (1 << board))
+    map_count(map % (1 << board))
 }
 
 // Enters the record, whose forged items begin at start, if it is for the round and for a sender of the table that has no rule yet.
@@ -39,6 +32,7 @@ fn enter(table: &mut [Option<Rule>], c: Record, start: usize, round: u16, first:
     if c.round != round || sender < first {
         return;
     }
+    // Kept by index: with `get_mut` and `get_or_insert` the proof did not close.
     let s = sender - first;
     if s < table.len() && table[s].is_none() {
         table[s] = Some(Rule {
@@ -50,6 +44,7 @@ fn enter(table: &mut [Option<Rule>], c: Record, start: usize, round: u16, first:
 }
 
 // The rules of the eight senders from the first on, in one pass over the records.
+// Kept a fixed table: a sender is one of a few, and the boards have no heap for a map.
 pub(crate) fn look_up(records: &[Record], round: u16, first: usize) -> [Option<Rule>; 8]
     ensures { (s : ℕ) → s < 8 → slice_index_or result s None ≡ first_rule records.now 0 round (first + s) }
 {
@@ -57,7 +52,7 @@ pub(crate) fn look_up(records: &[Record], round: u16, first: usize) -> [Option<R
     let mut start: usize = 0;
     for c in records {
         enter(&mut table, *c, start, round, first);
-        start += bits(c.forged);
+        start += map_count(c.forged);
     }
     table
 }

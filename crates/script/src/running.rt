@@ -1,13 +1,12 @@
 // Running a script as it lies in memory: the panel's calls over the script's backplane.
-ghost use Rattle.std.specs.Prelude.{◌≡◌, ℕ, ◌<◌, ◌≤◌, length, take};
+ghost use Rattle.std.specs.Prelude.{◌≡◌, ◌<◌, ◌≤◌, length};
 ghost use Rattle.panel.specs.Slots.{label_of};
 ghost use Rattle.panel.specs.Panel.{at, sizes, verdict_place};
 ghost use Rattle.panel.specs.Modelled.{state};
-ghost use Rattle.script.specs.Memory.{lists, laid};
-ghost use Rattle.script.specs.Runs.{borne, phases_due, opening, proposing, phases, history, verdicts, Ran, Went};
+ghost use Rattle.script.specs.Memory.{lists};
+ghost use Rattle.script.specs.Runs.{phases_due, opening, proposing, phases, history, verdicts, Ran, Went};
 
-use crate::model::{Header, Record};
-use crate::reading::bad_boards;
+use crate::model::{Header, Script};
 use crate::script_plane::ScriptBackplane;
 use exchanges::backplane::Backplane;
 use exchanges::exchange::Exchange;
@@ -17,33 +16,12 @@ use labels::refusal::Refusal;
 use labels::slip::Slip;
 use panel::Panel;
 
-// How many boards may be bad.
-fn faults_borne(head: Header) -> u8
-    ensures { result ≡ borne head }
+// The boards propose these labels, from board 0 on.
+fn propose_all<L: Ordered>(panel: &mut Panel<L>, proposals: &[L]) -> Result<(), Refusal>
+    ensures { Went L.order (state panel.old) (proposing 0 proposals.now) (state panel.new) result }
 {
-    match head.faults {
-        Some(faults) => faults,
-        None => head.boards.saturating_sub(1) / 3,
-    }
-}
-
-// How many phases are run.
-fn phases_to_run(head: Header) -> u8
-    ensures { result ≡ phases_due head }
-{
-    match head.phases {
-        Some(phases) => phases,
-        None => 8,
-    }
-}
-
-// The first so many boards propose.
-fn propose_all<L: Ordered>(panel: &mut Panel<L>, proposals: &[L], n: usize) -> Result<(), Refusal>
-    requires { n ≤ length proposals.now }
-    ensures { Went L.order (state panel.old) (proposing 0 (take n proposals.now)) (state panel.new) result }
-{
-    for q in 0..n {
-        panel.propose(q, proposals[q])?;
+    for (board, label) in proposals.iter().enumerate() {
+        panel.propose(board, *label)?;
     }
     Ok(())
 }
@@ -70,19 +48,16 @@ fn verdict_of<L: Ordered>(panel: &Panel<L>, board: usize) -> Option<L>
     requires { board < (state panel.now).boards }
     ensures { result ≡ label_of (at (state panel.now).slots board verdict_place) }
 {
-    match panel.verdict(board) {
-        Ok(verdict) => verdict,
-        Err(_) => None,
-    }
+    panel.verdict(board).unwrap_or(None)
 }
 
-// The verdicts of the first so many boards, at the front of a list.
-fn tell_verdicts<L: Ordered>(panel: &Panel<L>, n: usize, told: &mut [Option<L>])
-    requires { (n ≤ (state panel.now).boards) × (n ≤ length told.old) }
-    ensures { told.new ≡ laid (verdicts n (state panel.now)) told.old }
+// The verdicts of the boards, as many as the list has places.
+fn tell_verdicts<L: Ordered>(panel: &Panel<L>, told: &mut [Option<L>])
+    requires { length told.old ≤ (state panel.now).boards }
+    ensures { told.new ≡ verdicts (length told.old) (state panel.now) }
 {
-    for q in 0..n {
-        told[q] = verdict_of(panel, q);
+    for (board, place) in told.iter_mut().enumerate() {
+        *place = verdict_of(panel, board);
     }
 }
 
@@ -94,9 +69,9 @@ fn open_panel<L: Ordered>(
 ) -> Result<(), Refusal>
     ensures { Went L.order (state panel.old) (opening head proposals.now) (state panel.new) result }
 {
-    panel.fit(head.boards, faults_borne(head))?;
+    panel.fit(head.boards, head.faults_borne())?;
     let there = (head.boards as usize).min(proposals.len());
-    propose_all(panel, proposals, there)
+    propose_all(panel, &proposals[..there])
 }
 
 // Runs the script that lies in memory with the tree exchange, on a new panel over the slots. The
@@ -104,29 +79,32 @@ fn open_panel<L: Ordered>(
 // phases were run. At the first call that the panel refuses the run ends with this refusal, and the
 // list stays as it was. The slots and the three blocks are free afterwards.
 pub fn run<L: Ordered>(
-    head: Header,
-    proposals: &[L],
-    records: Vec<Record>,
-    count: usize,
-    slips: Vec<Slip<L>>,
+    script: Script<L>,
     slots: &mut [Option<Slip<L>>],
     heard: &mut [Option<Slip<L>>],
     picks: &mut [Option<Slip<L>>],
     work: &mut [Option<Slip<L>>],
     told: &mut [Option<L>],
 ) -> Result<u8, Refusal>
-    ensures { Ran L.order slots.old (history L.order slots.old (sizes (length heard.old) (length picks.old) (length work.old)) head count (lists proposals.now records.items slips.items)) head.boards (phases_due head) told.old told.new result }
+    ensures { Ran L.order slots.old (history L.order slots.old (sizes (length heard.old) (length picks.old) (length work.old)) script.entry.head script.entry.count (lists script.entry.proposals.now script.entry.records.now script.entry.slips.now)) script.entry.head.boards (phases_due script.entry.head) told.old told.new result }
 {
+    let head = script.head;
     let n = head.boards as usize;
     if told.len() < n {
         return Err(Refusal::MemoryTooShort);
     }
     let mut panel = Panel::new(slots);
-    open_panel(&mut panel, head, proposals)?;
-    let plane = ScriptBackplane::new(head.boards, bad_boards(head), records, count, slips);
-    let mut trees = Tree::new(plane, faults_borne(head));
-    let phases = phases_to_run(head);
+    open_panel(&mut panel, head, script.proposals)?;
+    let plane = ScriptBackplane::new(
+        head.boards,
+        head.bad_boards(),
+        script.records,
+        script.count,
+        script.slips,
+    );
+    let mut trees = Tree::new(plane, head.faults_borne());
+    let phases = head.phases_due();
     run_phases(&mut panel, &mut trees, phases, heard, picks, work)?;
-    tell_verdicts(&panel, n, told);
+    tell_verdicts(&panel, &mut told[..n]);
     Ok(phases)
 }

@@ -1,6 +1,5 @@
 // A backplane that obeys records: which receivers lose what a board sends in a round, and which get a forged item.
-ghost use Rattle.std.specs.Prelude.{◌≡◌, ◌+◌, take};
-ghost use Rattle.std.specs.List.{slice_get};
+ghost use Rattle.std.specs.Prelude.{◌≡◌, take};
 ghost use Rattle.exchanges.specs.Plane.{Carried};
 ghost use Rattle.script.specs.Obeys.{Obeys};
 ghost use Rattle.script.specs.ScriptAnswers.{obeyed, script};
@@ -14,23 +13,13 @@ use exchanges::backplane::Backplane;
 use exchanges::maps::has;
 use labels::refusal::Refusal;
 
-// A backplane that obeys the records of a script. It owns its lists.
+// A backplane that obeys the records of a script.
 #[derive(Drop)]
-pub struct ScriptBackplane<I> {
+pub struct ScriptBackplane<'a, I> {
     boards: u8,
     bad: u8,
-    rules: ScriptRules,
-    slips: Vec<I>,
-}
-
-// The item so far past the start, or silence past the end.
-fn item_at<I: Copy>(items: &[I], start: usize, offset: usize) -> Option<I>
-    ensures { result ≡ slice_get items.now (start + offset) }
-{
-    if start >= items.len() || offset >= items.len() - start {
-        return None;
-    }
-    Some(items[start + offset])
+    rules: ScriptRules<'a>,
+    slips: &'a [I],
 }
 
 // What the receiver hears under the sender's rule.
@@ -51,16 +40,16 @@ fn obey<I: Copy>(
         return None;
     }
     if has(bad, from) && has(c.forged, to) {
-        return item_at(slips, c.start, rank(c.forged, to));
+        return slips.get(c.start..)?.get(rank(c.forged, to)).copied();
     }
     sent
 }
 
-impl<I: Copy> ScriptBackplane<I> {
+impl<'a, I: Copy> ScriptBackplane<'a, I> {
     // So many boards, the map of the bad ones, the records of which the first so many count, and the forged items of all these in order; at round 0.
-    pub fn new(boards: u8, bad: u8, records: Vec<Record>, count: usize, slips: Vec<I>) -> Self
-        ensures means { script_plane result ≡ script boards bad (take count records.items) slips.items 0 }
-        ensures obeys { Obeys boards bad (take count records.items) slips.items (script_plane result) }
+    pub fn new(boards: u8, bad: u8, records: &'a [Record], count: usize, slips: &'a [I]) -> Self
+        ensures means { script_plane result ≡ script boards bad (take count records.now) slips.now 0 }
+        ensures obeys { Obeys boards bad (take count records.now) slips.now (script_plane result) }
     {
         ScriptBackplane {
             boards,
@@ -71,10 +60,10 @@ impl<I: Copy> ScriptBackplane<I> {
     }
 }
 
-impl<I: Copy> Backplane<I> for ScriptBackplane<I> {
+impl<'a, I: Copy> Backplane<I> for ScriptBackplane<'a, I> {
     ghost plane = { script_plane };
 
-    ghost keeps = { λ b. script_keeps b.boards b.bad b.rules.records.items b.slips.items b.rules.round };
+    ghost keeps = { λ b. script_keeps b.boards b.bad b.rules.records.now b.slips.now b.rules.round };
 
     fn boards(&self) -> u8 {
         self.boards
@@ -100,13 +89,6 @@ impl<I: Copy> Backplane<I> for ScriptBackplane<I> {
         if from >= n || to >= n {
             return None;
         }
-        obey(
-            self.rules.rule(from),
-            self.slips.as_slice(),
-            self.bad,
-            from,
-            to,
-            sent,
-        )
+        obey(self.rules.rule(from), self.slips, self.bad, from, to, sent)
     }
 }

@@ -3,7 +3,7 @@ use labels::fault::{Fault, Reader};
 use labels::frame_number::FrameNumber;
 use labels::refusal::Refusal;
 use labels::slip::Slip;
-use script::model::{Header, Record};
+use script::model::{Header, Record, Script};
 use script::reading::read;
 use script::writing::write;
 use std::test::Fail;
@@ -68,14 +68,16 @@ fn reads_and_writes_the_example(rt: HostRuntime) -> Result<(), Fail> {
     assert_eq!(rt; records, [NOTE]);
     assert_eq!(rt; (proposals[3].number(), slips[0].label.number()), (9, 6));
     let mut out = [0xffu8; 33];
-    assert_eq!(rt;
-        write(head, &proposals, &records, count, &slips, &mut out),
-        Ok(32)
-    );
+    let script = Script {
+        head,
+        proposals: &proposals,
+        records: &records,
+        count,
+        slips: &slips,
+    };
+    assert_eq!(rt; write(script, &mut out), Ok(32));
     let mut want = [0xffu8; 33];
-    for i in 0..32 {
-        want[i] = EXAMPLE[i];
-    }
+    want[..32].copy_from_slice(&EXAMPLE);
     assert_eq!(rt; out, want);
     Ok(())
 }
@@ -134,20 +136,39 @@ fn lists_that_end_too_soon(rt: HostRuntime) {
     let proposals = [FrameNumber::new(5); 4];
     let slips = [slip(6); 1];
     let mut out = [0u8; 31];
+    let whole = Script {
+        head: HEAD,
+        proposals: &proposals,
+        records: &[NOTE],
+        count: 1,
+        slips: &slips,
+    };
+    let few_proposals = Script {
+        proposals: &proposals[0..3],
+        ..whole
+    };
     assert_eq!(rt;
-        write(HEAD, &proposals[0..3], &[NOTE], 1, &slips, &mut out),
+        write(few_proposals, &mut out),
         refused(Refusal::InputEnds, 18, Reader::Label)
     );
+    let no_slips = Script {
+        slips: &slips[0..0],
+        ..whole
+    };
     assert_eq!(rt;
-        write(HEAD, &proposals, &[NOTE], 1, &slips[0..0], &mut out),
+        write(no_slips, &mut out),
         refused(Refusal::InputEnds, 27, Reader::Record)
     );
+    let few_records = Script {
+        count: usize::MAX,
+        ..whole
+    };
     assert_eq!(rt;
-        write(HEAD, &proposals, &[NOTE], usize::MAX, &slips, &mut out),
+        write(few_records, &mut out),
         refused(Refusal::InputEnds, 32, Reader::Record)
     );
     assert_eq!(rt;
-        write(HEAD, &proposals, &[NOTE], 1, &slips, &mut out),
+        write(whole, &mut out),
         refused(Refusal::OutputTooShort, 31, Reader::Script)
     );
     assert_eq!(rt; out, [0u8; 31]);

@@ -11,7 +11,7 @@ returns g c =
     let t = c.args.faults in
     let sent = c.args.sent.now in
     let heard = c.args.heard.now in
-    let none = none_due c.boards-n.result b.boards t c.round.result b.round 1 (λ n. short n sent heard) c.too_short-short.result c.boards-n.ensures c.too_short-short.ensures c.round.ensures c.in_default.ensures in
+    let none = none_due c.boards-boards.result b.boards t c.round.result b.round 1 (λ n. short n sent heard) c.too_short-short.result c.boards-boards.ensures c.too_short-short.ensures c.round.ensures c.in_ok-size.ensures.0 in
     let room = long_heard b.boards sent heard (undue b.boards t b.round 1 (short b.boards sent heard) none).room in
-    let ran = plain_ran c.from.result b (plane c.turn.new.self) (plane c.send_all.new.b) sent heard c.send_all.new.heard (c.from.ensures ∙ c.boards-n.ensures) c.in_ok-turn.ensures.1 c.send_all.ensures room in
+    let ran = plain_ran c.in_ok-size.size.boards b (plane c.turn.new.self) (plane c.send_all.new.b) sent heard c.send_all.new.heard (c.in_ok-size.ensures.1 ∙ c.boards-boards.ensures) c.in_ok-turn.ensures.1 c.send_all.ensures room in
     (none, ran.0, ran.1)

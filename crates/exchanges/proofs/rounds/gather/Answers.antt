@@ -1,6 +1,5 @@
-use Rattle.std.proofs.Common.{◌≡◌, ℕ, ◌+◌, ◌*◌, [], drop, fold, sym, refl, subst, add-one, arith}
+use Rattle.std.proofs.Common.{◌≡◌, ℕ, ◌+◌, ◌*◌, drop, sym, refl, subst, add-one, arith}
 use Rattle.exchanges.specs.Trees.{fill, Run}
-use Rattle.exchanges.specs.Slots.{trail, Worked, Work, carried, hops_under}
 use Rattle.exchanges.proofs.Stand.{Agrees}
 use Rattle.exchanges.proofs.Whole.{first, agrees_round, agrees_last, turned_on, below_last}
 use Rattle.exchanges.proofs.rounds.gather.Goals as goal
@@ -14,10 +13,7 @@ loop-r-preserved g c =
     let b = g.B.Backplane.plane c.loop-r.b in
     let turned = turned_on g.B.Backplane.plane c.loop-r.b c.turn.new.self c.turn.result c.turn.ensures (below_last b₀ b n c.loop-r.r R refl c.loop-r.invariant.planes (omega (arith, c.requires.timely, c.loop-r-test.true))) in
     let rest = drop (n * c.args.shape.size) c.args.ws.now in
-    let I = g.row.I.Denot in
-    let w : Work I = record { plane = g.B.Backplane.plane c.turn.new.self; slots = c.loop-r.ws } in
-    let worked : Worked (g.B.Backplane.plane c.spread.new.b) c.spread.new.ws (fold (carried n c.args.shape.size own) w (hops_under n [] c.loop-r.r)) = subst (λ (k : ℕ). Worked (g.B.Backplane.plane c.spread.new.b) c.spread.new.ws (fold (carried n c.args.shape.size own) w (hops_under n (trail c.empty.result.boards k) c.loop-r.r))) c.empty.ensures c.spread.ensures in
-    let done = agrees_round n c.args.shape.t c.args.shape.size own c.requires.room.sized rest b (g.B.Backplane.plane c.turn.new.self) (g.B.Backplane.plane c.spread.new.b) c.loop-r.ws c.spread.new.ws (fill n c.loop-r.r R) c.loop-r.r (omega (arith, c.loop-r-test.true)) c.loop-r.invariant turned worked in
+    let done = agrees_round n c.args.shape.t c.args.shape.size own c.args.shape.sized rest b (g.B.Backplane.plane c.turn.new.self) (g.B.Backplane.plane c.spread.new.b) c.loop-r.ws c.spread.new.ws (fill n c.loop-r.r R) c.loop-r.r (omega (arith, c.loop-r-test.true)) c.loop-r.invariant turned c.spread.ensures in
     subst (λ (k : ℕ). Agrees n c.args.shape.t c.args.shape.size own rest (record { plane = g.B.Backplane.plane c.spread.new.b; slots = c.spread.new.ws }) (fill n k R)) (sym (add-one c.loop-r.r)) done
 
 pub returns : goal.returns

@@ -1,39 +1,44 @@
 use Rattle.std.proofs.Common.{◌≡◌, ℕ, ◌+◌, ◌*◌, ◌<◌, List, [], length, set, fold, sym, ap, ◌∙◌, subst, arith, rules}
+use Rattle.exchanges.specs.declared.path.Shape.{Shape}
 use Rattle.exchanges.specs.Plane.{carry, after}
-use Rattle.exchanges.specs.Trees.{IsPath, place}
-use Rattle.exchanges.specs.Slots.{trail, Worked, Work, carried, hops_from}
+use Rattle.exchanges.specs.Trees.{Hop, place}
+use Rattle.exchanges.specs.Slots.{trail, held, Worked, Work, carried, hops_from, hops_to}
 use Rattle.exchanges.proofs.Slots.{slot_in, work_step, sent_more}
-use Rattle.exchanges.proofs.rounds.send.Given as given
 use Rattle.exchanges.proofs.rounds.send.Goals as goal
 
-pub place-place-requires : goal.place-place-requires
-place-place-requires g c = record { few = c.requires.room.few; some = omega (arith, c.add.ensures.longer); path = subst (λ (α : List ℕ). IsPath c.args.shape.n α) (sym c.add.ensures.added) c.requires.path }
-
--- the place that is written
-module _ (g : given.Over) (c : goal.After-carry g) where
-  written : (c.loop-p.p * c.args.shape.size + c.place-place.result < length c.loop-p.ws) × (c.loop-p.p * c.args.shape.size + c.place-place.result < 1813)
-  written = slot_in c.args.shape.n c.args.shape.t c.args.shape.size (length c.args.own.now) (length c.loop-p.ws) c.loop-p.p c.place-place.result c.add.result.boards c.add.result.len (record { few = c.requires.room.few; low = c.requires.room.low; sized = c.requires.room.sized; sends = c.requires.room.sends; holds = omega arith }) c.loop-p-test.true (subst (λ (α : List ℕ). IsPath c.args.shape.n α) (sym c.add.ensures.added) c.requires.path) (omega (arith, c.add.ensures.longer)) (omega (arith, c.add.ensures.longer, c.requires.short)) c.place-place.ensures
-
 pub overflow_mul-p : goal.overflow_mul-p
-overflow_mul-p g c = omega (arith, written g c)
+overflow_mul-p g c = omega (arith, slot_in c.args.path _ c.loop-p.p c.place-place.result c.requires.holds c.loop-p-test.true c.requires.some c.place-place.ensures)
 
 pub overflow_add-p : goal.overflow_add-p
-overflow_add-p g c = omega (arith, written g c)
+overflow_add-p g c = omega (arith, slot_in c.args.path _ c.loop-p.p c.place-place.result c.requires.holds c.loop-p-test.true c.requires.some c.place-place.ensures)
 
 pub offset_bounds-ws-p : goal.offset_bounds-ws-p
-offset_bounds-ws-p g c = let h : c.loop-p.p * c.args.shape.size + c.place-place.result < length c.args.ws.now = omega (arith, (written g c).0) in search rules
+offset_bounds-ws-p g c = let h : c.loop-p.p * c.args.path.shape.size + c.place-place.result < length c.args.ws.now = (slot_in c.args.path _ c.loop-p.p c.place-place.result c.requires.holds c.loop-p-test.true c.requires.some c.place-place.ensures).0 in search rules
 
 pub bounds-ws-p : goal.bounds-ws-p
-bounds-ws-p g c = (written g c).0
+bounds-ws-p g c = omega (arith, (slot_in c.args.path _ c.loop-p.p c.place-place.result c.requires.holds c.loop-p-test.true c.requires.some c.place-place.ensures).0)
 
 pub loop-p-preserved : goal.loop-p-preserved
 loop-p-preserved g c =
-    let α = trail c.args.path.boards c.args.path.len in
+    let shape = c.args.path.shape in
+    let q = c.split-q.result.1 in
+    let rest = c.split-q.result.0 in
+    let α = trail rest.boards rest.len in
     let start : Work g.row.I.Denot = record { plane = g.B.Backplane.plane c.args.b.now; slots = c.args.ws.now } in
     let own = c.args.own.now in
-    let at = ap (λ (x : ℕ). c.loop-p.p * c.args.shape.size + x) (c.place-place.ensures ∙ ap (place c.args.shape.n) c.add.ensures.added) in
+    let at = ap (λ (x : ℕ). c.loop-p.p * shape.size + x) (c.place-place.ensures ∙ ap (place shape.n) c.split-q.ensures.parts) in
     let b = g.B.Backplane.plane c.loop-p.b in
-    let answers : c.carry.result ≡ b.answer [] c.args.q c.loop-p.p c.read-item.result = cc c.carry.ensures.answers in
-    let leaves : g.B.Backplane.plane c.carry.new.self ≡ after b (carry c.args.q c.loop-p.p c.read-item.result) = cc c.carry.ensures.leaves in
-    let step = work_step c.args.shape.n c.args.shape.size own (fold (carried c.args.shape.n c.args.shape.size own) start (hops_from c.loop-p.p α c.args.q)) (record { path = α; from = c.args.q; to = c.loop-p.p }) (g.B.Backplane.plane c.loop-p.b) (g.B.Backplane.plane c.carry.new.self) c.loop-p.ws c.read-item.result c.carry.result (c.loop-p.p * c.args.shape.size + c.place-place.result) c.loop-p.invariant c.read-item.ensures answers leaves at in
-    subst (λ (w : Work g.row.I.Denot). Worked (g.B.Backplane.plane c.carry.new.self) (set c.loop-p.ws (c.loop-p.p * c.args.shape.size + c.place-place.result) c.carry.result) w) (sym (sent_more c.args.shape.n c.args.shape.size own start α c.args.q c.loop-p.p)) step
+    let answers : c.carry.result ≡ b.answer [] q c.loop-p.p c.read-item.result = cc c.carry.ensures.answers in
+    let leaves : g.B.Backplane.plane c.carry.new.self ≡ after b (carry q c.loop-p.p c.read-item.result) = cc c.carry.ensures.leaves in
+    let held_is = c.read-item.ensures ∙ ap (λ (s : Shape). held s.n s.size own c.loop-p.ws q α) c.split-q.ensures.shape in
+    let step = work_step shape.n shape.size own (fold (carried shape.n shape.size own) start (hops_from c.loop-p.p α q)) (record { path = α; from = q; to = c.loop-p.p }) b (g.B.Backplane.plane c.carry.new.self) c.loop-p.ws c.read-item.result c.carry.result (c.loop-p.p * shape.size + c.place-place.result) c.loop-p.invariant held_is answers leaves at in
+    subst (λ (w : Work g.row.I.Denot). Worked (g.B.Backplane.plane c.carry.new.self) (set c.loop-p.ws (c.loop-p.p * shape.size + c.place-place.result) c.carry.result) w) (sym (sent_more shape.n shape.size own start α q c.loop-p.p)) step
+
+pub returns : goal.returns
+returns g c =
+    let shape = c.args.path.shape in
+    let rest = c.split-q.result.0 in
+    let start : Work g.row.I.Denot = record { plane = g.B.Backplane.plane c.args.b.now; slots = c.args.ws.now } in
+    let W = λ (hs : List Hop). Worked (g.B.Backplane.plane c.loop-p.b) c.loop-p.ws (fold (carried shape.n shape.size c.args.own.now) start hs) in
+    let all : c.loop-p.p ≡ shape.n = omega arith in
+    subst (λ (α : List ℕ). W (hops_to shape.n α)) (sym c.split-q.ensures.parts) (subst (λ (m : ℕ). W (hops_from m (trail rest.boards rest.len) c.split-q.result.1)) all c.loop-p.invariant)

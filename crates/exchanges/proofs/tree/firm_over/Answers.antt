@@ -15,13 +15,13 @@ returns g c =
     let s = c.args.sent.now in
     let h = c.args.heard.now in
     let w = c.args.work.now in
-    let n = c.from-n.result in
-    let t = c.from-t.result in
+    let n = c.new.result.n in
+    let t = c.new.result.t in
     let sh : ℕ → Bool = λ m. short m s h || ltb (length w) (cond (fits m f) (m * tree_size m f) 0) in
-    let none = none_due c.boards-n.result b.boards f c.round.result b.round (c.from.result + 1) sh c.lacks_room-short.result c.boards-n.ensures c.lacks_room-short.ensures c.round.ensures c.in_default.ensures in
+    let none = none_due c.boards-boards.result b.boards f c.round.result b.round (c.from.result + 1) sh c.lacks_room-short.result c.boards-boards.ensures c.lacks_room-short.ensures c.round.ensures c.in_ok-size.ensures.0 in
     let T = (filled n (t + 1) b (take n s)).trees in
-    let run : Done same b (plane c.run_trees.new.b) s h c.run_trees.new.heard w c.run_trees.new.ws n t = record { plane = c.run_trees.ensures.plane; heard = c.run_trees.ensures.heard; work = c.run_trees.ensures.work ∙ ap (λ (x : ℕ). workspace same n t T ++ drop (n * x) w) c.tree_size-size.ensures } in
-    let done = done_at same b (plane c.run_trees.new.b) s h c.run_trees.new.heard w c.run_trees.new.ws n b.boards t f (c.from-n.ensures ∙ c.boards-n.ensures) c.from-t.ensures run in
+    let run : Done same b (plane c.run_trees.new.b) s h c.run_trees.new.heard w c.run_trees.new.ws n t = record { plane = c.run_trees.ensures.plane; heard = c.run_trees.ensures.heard; work = c.run_trees.ensures.work ∙ ap (λ (x : ℕ). workspace same n t T ++ drop (n * x) w) c.new.result.sized } in
+    let done = done_at same b (plane c.run_trees.new.b) s h c.run_trees.new.heard w c.run_trees.new.ws n b.boards t f (c.new.ensures.0 ∙ c.in_ok-size.ensures.1 ∙ c.boards-boards.ensures) (c.new.ensures.1 ∙ c.in_ok-size.ensures.2) run in
     record {
       ran = (subst (λ (k : ℕ). due b.boards f (sh b.boards) b.round (k + 1) ≡ None) c.from.ensures none, done.plane, done.heard);
       left = done.work;

@@ -1,19 +1,15 @@
-use Rattle.std.proofs.Common.{◌+◌, ◌*◌, ◌/◌, ◌%◌, get_or, None, arith}
-use Rattle.std.proofs.lemmas.List.{get_or_read}
-use Rattle.exchanges.proofs.Heard.{cell_in, heard_more}
+use Rattle.std.proofs.Common.{◌≡◌, ℕ, ◌+◌, ◌-◌, ◌*◌, take, drop, ap, ◌∙◌, arith}
+use Rattle.exchanges.proofs.Heard.{row_below, row_in, heard_more}
 use Rattle.exchanges.proofs.tree.hear.Goals as goal
 
-pub overflow_mul-heard : goal.overflow_mul-heard
-overflow_mul-heard g c = omega (arith, (cell_in c.args.shape.n c.args.shape.t c.args.shape.size _ _ c.loop-k.k c.requires.room c.loop-k-test.true).1)
+pub slice_bounds-row-end : goal.slice_bounds-row-end
+slice_bounds-row-end g c = omega (arith, row_in c.args.shape _ c.loop-p.p c.requires.room c.loop-p-test.true)
 
-pub overflow_add-heard : goal.overflow_add-heard
-overflow_add-heard g c = omega (arith, (cell_in c.args.shape.n c.args.shape.t c.args.shape.size _ _ c.loop-k.k c.requires.room c.loop-k-test.true).1)
-
-pub offset_bounds-ws-k : goal.offset_bounds-ws-k
-offset_bounds-ws-k g c = omega (arith, (cell_in c.args.shape.n c.args.shape.t c.args.shape.size _ _ c.loop-k.k c.requires.room c.loop-k-test.true).0)
-
-pub bounds-ws-k : goal.bounds-ws-k
-bounds-ws-k g c = (cell_in c.args.shape.n c.args.shape.t c.args.shape.size _ _ c.loop-k.k c.requires.room c.loop-k-test.true).0
-
-pub loop-k-preserved : goal.loop-k-preserved
-loop-k-preserved g c = heard_more (λ k. get_or c.args.ws.now (k / c.args.shape.n * c.args.shape.size + k % c.args.shape.n) None) c.loop-k.heard c.args.heard.now c.loop-k.k c.index-ws-k.result (omega (arith, c.requires.heard, c.loop-k-test.true)) c.loop-k.invariant (get_or_read c.args.ws.now (c.loop-k.k / c.args.shape.n * c.args.shape.size + c.loop-k.k % c.args.shape.n) c.index-ws-k.result (cell_in c.args.shape.n c.args.shape.t c.args.shape.size _ _ c.loop-k.k c.requires.room c.loop-k-test.true).0 c.index-ws-k.is None)
+pub loop-p-preserved : goal.loop-p-preserved
+loop-p-preserved g c =
+    let n = c.args.shape.n in
+    let size = c.args.shape.size in
+    let ws = c.args.ws.now in
+    let p = c.loop-p.p in
+    let width : p * size + n - p * size ≡ n = omega arith in
+    heard_more n size ws p _ c.loop-p.heard c.copy_from_slice.new.self c.args.heard.now (row_in c.args.shape _ p c.requires.room c.loop-p-test.true) (row_below n n p n _ c.requires.heard c.loop-p-test.true (omega arith)) c.loop-p.invariant (c.copy_from_slice.ensures.after ∙ ap (λ (k : ℕ). take k (drop (p * size) ws)) width) (omega arith)

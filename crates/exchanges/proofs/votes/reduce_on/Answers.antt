@@ -7,6 +7,6 @@ use Rattle.exchanges.proofs.votes.reduce_on.Goals as goal
 pub loop-p-preserved : goal.loop-p-preserved
 loop-p-preserved g c =
     let α = trail c.args.path.boards c.args.path.len in
-    let f = settle g.I.Item.same c.args.shape.n c.args.shape.t c.args.shape.size in
+    let f = settle g.I.Item.same c.args.path.shape.n c.args.path.shape.t c.args.path.shape.size in
     let p = c.loop-p.p in
     c.reduce_at.ensures ∙ ap (λ (ws : List (Option g.row.I.Denot)). f ws (record { board = p; path = α })) c.loop-p.invariant ∙ sym (ap (fold f c.args.ws.now) (map-range_with_len_more {X = Spot} (λ x. record { board = x; path = α }) 0 p p (omega arith)) ∙ fold_push f c.args.ws.now (spots_on p α) (record { board = p; path = α }))

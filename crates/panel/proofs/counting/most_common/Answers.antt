@@ -1,13 +1,10 @@
-use Rattle.std.proofs.Common.{◌≡◌, ap, ◌∙◌, arith}
-use Rattle.panel.specs.Phase.{ahead, wins_often, times, best}
-use Rattle.panel.specs.Votes.{row_at}
-use Rattle.panel.proofs.Loops.{best_more}
+use Rattle.std.proofs.Common.{true, length, rules, ◌∙◌}
+use Rattle.panel.specs.Phase.{ahead, wins_often, times}
+use Rattle.panel.specs.Votes.{row_of}
+use Rattle.panel.proofs.Tests.{best_each}
 use Rattle.panel.proofs.counting.most_common.Goals as goal
-
-pub loop-q-preserved : goal.loop-q-preserved
-loop-q-preserved g c = best_more _ (row_at c.args.claims.now c.args.start) c.loop-q.q c.loop-q.top _ _ c.loop-q.invariant c.slot_at.ensures c.oftener_of-top.ensures
 
 pub returns : goal.returns
 returns g c =
-    let e : c.loop-q.q ≡ c.args.n = omega arith in
-    c.loop-q.invariant ∙ ap (best (ahead (wins_often g.L.Ordered.order) (λ s. times g.L.Ordered.order c.args.n (row_at c.args.claims.now c.args.start) s.label)) (row_at c.args.claims.now c.args.start)) e
+    let row = c.args.row.now in
+    c.best.ensures (λ s. true) (ahead (wins_often g.L.Ordered.order) (λ s. times g.L.Ordered.order (length row) (row_of row) s.label)) (λ s b k. search rules) (λ s r b k. search rules) ∙ best_each _ (row_of row) (length row)

@@ -1,11 +1,12 @@
-use Rattle.std.proofs.Common.{◌≡◌, ap, ◌∙◌, arith}
-use Rattle.exchanges.specs.Boards.{count}
-use Rattle.panel.specs.Votes.{passes, row_at}
-use Rattle.panel.proofs.Loops.{counted_more}
+use Rattle.std.proofs.Common.{rules, None, ◌∙◌}
+use Rattle.std.proofs.lemmas.Iterator.{YieldsList-from_slice}
+use Rattle.std.proofs.lemmas.Iterator.Consumers.{count_from_yields_List, YieldsList-from_filter}
+use Rattle.std.proofs.lemmas.List.Sums.{length-filter}
+use Rattle.panel.proofs.Tests.{told, count_along}
 use Rattle.panel.proofs.counting.votes.Goals as goal
 
-pub loop-q-preserved : goal.loop-q-preserved
-loop-q-preserved g c = counted_more (λ q. passes g.L.Ordered.order c.args.vote (row_at c.args.heard.now c.args.start q)) c.loop-q.q c.loop-q.many _ _ c.loop-q.invariant (c.counts_for.ensures ∙ ap (passes g.L.Ordered.order c.args.vote) c.slot_at.ensures) c.from-many.ensures
-
 pub returns : goal.returns
-returns g c = let e : c.loop-q.q ≡ c.args.n = omega arith in c.loop-q.invariant.1 ∙ ap (count (λ q. passes g.L.Ordered.order c.args.vote (row_at c.args.heard.now c.args.start q))) e
+returns g c = λ T h.
+    let row = c.args.row.now in
+    count_from_yields_List c.filter.result _ c.count.ensures.ran (YieldsList-from_filter _ T (YieldsList-from_slice row cc) c.filter.ensures.closure (λ x b q k. (search rules, told _ T x.now b h (search rules))))
+    ∙ (length-filter T row ∙ count_along T row None)

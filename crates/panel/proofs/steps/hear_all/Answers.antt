@@ -8,9 +8,8 @@ hear_block-requires g c =
     let x = g.E.Exchange.meaning c.args.exchange.now in
     let y = g.E.Exchange.meaning c.loop-g.exchange in
     let slots = c.args.slots.now in
-    let n = c.args.n in
+    let n = c.args.size.boards in
     record {
-      small = c.requires.small;
       inside = omega arith;
       wide = omega arith;
       within = next_within c.loop-g.g c.args.phase (n * n) (length c.loop-g.blocks) c.loop-g-test.true (omega arith);
@@ -23,14 +22,14 @@ loop-g-preserved g c =
     let x = g.E.Exchange.meaning c.args.exchange.now in
     let y = g.E.Exchange.meaning c.loop-g.exchange in
     let h = c.hear_block.ensures in (
-      asked_more x c.args.n c.args.slots.now c.loop-g.g y _ c.loop-g.invariant.0 h.leaves,
-      filled_more x c.args.n c.args.slots.now c.loop-g.g y c.loop-g.blocks c.hear_block.new.blocks c.loop-g.invariant.0 c.loop-g.invariant.1 h.before h.here,
+      asked_more x c.args.size.boards c.args.slots.now c.loop-g.g y _ c.loop-g.invariant.0 h.leaves,
+      filled_more x c.args.size.boards c.args.slots.now c.loop-g.g y c.loop-g.blocks c.hear_block.new.blocks c.loop-g.invariant.0 c.loop-g.invariant.1 h.before h.here,
     )
 
 pub returns : goal.returns
 returns g c =
     let e : c.loop-g.g ≡ c.args.phase = omega arith in
     record {
-      leaves = c.loop-g.invariant.0 ∙ ap (λ k. after_asks (g.E.Exchange.meaning c.args.exchange.now) (firsts c.args.n c.args.slots.now k)) e;
+      leaves = c.loop-g.invariant.0 ∙ ap (λ k. after_asks (g.E.Exchange.meaning c.args.exchange.now) (firsts c.args.size.boards c.args.slots.now k)) e;
       fills = λ k lt. c.loop-g.invariant.1 k (omega arith);
     }

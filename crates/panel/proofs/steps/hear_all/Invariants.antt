@@ -4,4 +4,4 @@ use Rattle.panel.specs.Steps.{Filled}
 use Rattle.panel.proofs.steps.hear_all.Given as goal
 
 abbrev pub invariant-loop-g : goal.invariant-loop-g
-invariant-loop-g g l = (g.E.Exchange.meaning l.exchange ≡ after_asks (g.E.Exchange.meaning l.initial.exchange) (firsts l.n l.slots l.g)) × Filled (g.E.Exchange.meaning l.initial.exchange) l.n l.slots l.g l.blocks
+invariant-loop-g g l = (g.E.Exchange.meaning l.exchange ≡ after_asks (g.E.Exchange.meaning l.initial.exchange) (firsts l.size.boards l.slots l.g)) × Filled (g.E.Exchange.meaning l.initial.exchange) l.size.boards l.slots l.g l.blocks

@@ -1,4 +1,4 @@
-use Rattle.std.proofs.Common.{Err, ap, ◌∙◌, arith}
+use Rattle.std.proofs.Common.{Err, refl, ap, ◌∙◌, arith}
 use Rattle.script.specs.Memory.{lists}
 use Rattle.script.proofs.Follow.{passed}
 use Rattle.script.proofs.Surveys.{found, reads_fault, reads_short, no_label_fault, enough, no_entry_fault, reads_all}
@@ -13,26 +13,26 @@ returns-in_err-found g c =
 pub returns-then-proposals-n : goal.returns-then-proposals-n
 returns-then-proposals-n g c =
     let f = found g.L.Label.coding g.met.L.Label.own c.args.input.now c.in_ok-found.found c.in_ok-found.ensures in
-    let e = reads_short g.L.Label.coding g.met.L.Label.own c.args.input.now c.in_ok-found.found f (lists c.args.proposals.now c.args.records.now c.args.slips.now) (λ i j k. omega (arith, c.then-proposals-n.either)) in
-    record { value = ap Err c.in_script.ensures ∙ e.0; after = e.1; trip = writes_back g.L.Label.coding g.met.L.Label.own }
+    let e = reads_short f (lists c.args.proposals.now c.args.records.now c.args.slips.now) (λ i j k. omega (arith, c.then-proposals-n.either)) in
+    record { value = ap Err c.fault_at.ensures ∙ e.0; after = e.1; trip = writes_back g.L.Label.coding g.met.L.Label.own }
 
 pub returns-in_err-fill_row : goal.returns-in_err-fill_row
 returns-in_err-fill_row g c =
     let f = found g.L.Label.coding g.met.L.Label.own c.args.input.now c.in_ok-found.found c.in_ok-found.ensures in
-    absurd (no_label_fault g.L.Label.coding g.met.L.Label.own c.args.input.now c.in_ok-found.found f _ _ _ c.in_err-fill_row.ensures)
+    absurd (no_label_fault f (lists c.args.proposals.now c.args.records.now c.args.slips.now) (omega arith) _ _ c.in_err-fill_row.ensures)
 
 pub fill_entries-requires : goal.fill_entries-requires
 fill_entries-requires g c =
     let f = found g.L.Label.coding g.met.L.Label.own c.args.input.now c.in_ok-found.found c.in_ok-found.ensures in
-    (f.few, enough g.L.Label.coding g.met.L.Label.own c.args.input.now c.in_ok-found.found f _ c.bad_boards.ensures _ _ (omega arith) (omega arith))
+    enough f _ _ (omega arith) (omega arith)
 
 pub returns-in_err-fill_entries : goal.returns-in_err-fill_entries
 returns-in_err-fill_entries g c =
     let f = found g.L.Label.coding g.met.L.Label.own c.args.input.now c.in_ok-found.found c.in_ok-found.ensures in
-    absurd (no_entry_fault g.L.Label.coding g.met.L.Label.own c.args.input.now c.in_ok-found.found f _ c.bad_boards.ensures _ _ _ _ _ c.in_err-fill_entries.ensures)
+    absurd (no_entry_fault f _ _ _ _ _ c.in_err-fill_entries.ensures)
 
 pub returns : goal.returns
 returns g c =
     let f = found g.L.Label.coding g.met.L.Label.own c.args.input.now c.in_ok-found.found c.in_ok-found.ensures in
-    let e = reads_all g.L.Label.coding g.met.L.Label.own c.args.input.now c.in_ok-found.found f _ c.bad_boards.ensures _ (lists c.args.proposals.now c.args.records.now c.args.slips.now) _ _ _ (omega arith) (omega arith) (omega arith) c.in_ok-fill_row.ensures c.in_ok-fill_entries.ensures in
+    let e = reads_all f _ (lists c.args.proposals.now c.args.records.now c.args.slips.now) _ _ _ _ (omega arith) (omega arith) (omega arith) c.in_ok-fill_row.ensures refl c.in_ok-fill_entries.ensures in
     record { value = e.0; after = e.1; trip = writes_back g.L.Label.coding g.met.L.Label.own }

@@ -1,7 +1,7 @@
-use Rattle.std.proofs.Common.{take, drop, Ok}
+use Rattle.std.proofs.Common.{take, Ok}
 use Rattle.script.specs.Fields.{joined}
 use Rattle.script.specs.Passes.{Puts}
 use Rattle.script.proofs.rows.put_row.Given as goal
 
-abbrev pub invariant-loop-i : goal.invariant-loop-i
-invariant-loop-i g l = Puts (joined g.R.Row.bytes (take l.i (drop l.from l.list))) l.initial.out l.at (Ok l.p) l.out
+abbrev pub invariant-loop-x : goal.invariant-loop-x
+invariant-loop-x g l = Puts (joined g.R.Row.bytes (take l.x-index l.list)) l.initial.out l.at (Ok l.p) l.out

@@ -6,4 +6,4 @@ pub returns-then-board-ge8 : goal.returns-then-board-ge8
 returns-then-board-ge8 c =
     let p : 2 ^ 8 ≤ 2 ^ c.args.board = pow_mono {i = 8} {j = c.args.board} (omega arith) in
     let below : c.args.map < 2 ^ c.args.board = omega arith in
-    c.bits.ensures.value ∙ ap ones (sym (mod-eq_of_lt below))
+    c.map_count.ensures.value ∙ ap ones (sym (mod-eq_of_lt below))

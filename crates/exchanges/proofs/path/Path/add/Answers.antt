@@ -1,6 +1,18 @@
-use Rattle.std.proofs.Common.{rules}
+use Rattle.std.proofs.Common.{List, sym, ap, ◌∙◌, subst, arith, rules}
+use Rattle.exchanges.specs.Trees.{IsPath, rank}
+use Rattle.exchanges.proofs.Trail.{more_of}
 use Rattle.exchanges.proofs.Slots.{trail_add}
 use Rattle.exchanges.proofs.path.Path.add.Goals as goal
 
-pub returns : goal.returns
-returns c = record { longer = search rules; added = trail_add c.args.self.boards c.args.self.len c.args.q (search rules) }
+pub overflow_mul-result : goal.overflow_mul-result
+overflow_mul-result c = omega (arith, (more_of c.args.self c.args.i c.other.result c.requires.short c.other.ensures.board c.other.ensures.off c.other.ensures.next).small)
+
+pub overflow_add-result-2 : goal.overflow_add-result-2
+overflow_add-result-2 c = omega (arith, (more_of c.args.self c.args.i c.other.result c.requires.short c.other.ensures.board c.other.ensures.off c.other.ensures.next).small)
+
+pub invariant_of-result : goal.invariant_of-result
+invariant_of-result c =
+    let n = c.args.self.shape.n in
+    let more = more_of c.args.self c.args.i c.other.result c.requires.short c.other.ensures.board c.other.ensures.off c.other.ensures.next in
+    let added = trail_add c.args.self.boards c.args.self.len c.other.result (search rules) in
+    record { short = omega arith; differ = subst (λ (β : List _). IsPath n β) (sym added) more.whole; placed = more.index ∙ ap (rank n) (sym added) }

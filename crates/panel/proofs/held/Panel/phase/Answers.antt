@@ -1,4 +1,4 @@
-use Rattle.std.proofs.Common.{◌*◌, length, sym, ap}
+use Rattle.std.proofs.Common.{◌*◌, length, sym, ap, ◌∙◌}
 use Rattle.std.proofs.lemmas.Result.{err_from_is_err_and}
 use Rattle.panel.specs.Panel.{phase, sizes}
 use Rattle.panel.specs.Modelled.{state}
@@ -32,13 +32,13 @@ returns g c =
     let a = c.in_ok-size.ensures.answer in
     let room = roomy (state self) x (sizes (length c.args.heard.now) (length c.args.picks.now) (length c.args.work.now)) a in
     let o = g.L.Ordered.order in
-    let area = square o self.size z is self.phases x self.slots.now in
+    let area = square o self.size z is self.phases x self.slots.now ∙ ap (λ k. k * k) (sym c.n-n.ensures) in
     record {
       answer = a;
       next = next_run o self.size z is self.phases x self.slots.now _ c.run_phase.new.slots a c.run_phase.ensures.slots;
       unaltered = tt;
       exchanged = exchanged_run o self.size z is self.phases x self.slots.now _ c.run_phase.ensures.exchange;
-      heard = kept_part _ (z.boards * z.boards) c.args.heard.now c.run_phase.new.heard area room.0 c.run_phase.auto.heard;
-      picks = kept_part _ (8 * (z.boards * z.boards)) c.args.picks.now c.run_phase.new.blocks (ap (λ k. 8 * k) area) room.1 c.run_phase.auto.blocks;
+      heard = kept_part _ (c.n-n.result * c.n-n.result) c.args.heard.now c.run_phase.new.heard area room.0 c.run_phase.auto.heard;
+      picks = kept_part _ (8 * (c.n-n.result * c.n-n.result)) c.args.picks.now c.run_phase.new.blocks (ap (λ k. 8 * k) area) room.1 c.run_phase.auto.blocks;
       work = kept_part _ c.workspace-space.result c.args.work.now c.run_phase.new.work (sym c.workspace-space.ensures) room.2 c.run_phase.auto.work;
     }

@@ -1,0 +1,185 @@
+#!/usr/bin/env python3
+"""Lists the places of src/ that are written in an older form, by point of docs/DESIGN-PASS.md.
+
+usage: python3 tools/places.py [FOLDER]     each place, one a line, and the counts last
+       python3 tools/places.py --count [FOLDER]     the counts alone
+
+It goes by text: a row is a place to look at. A place that stays has a comment that begins `Kept` at most six lines above it, or (points 2 and 5) at the head of its file, and is counted apart.
+"""
+
+import difflib
+import glob
+import os
+import re
+import sys
+from collections import defaultdict
+
+KEPT = re.compile(r"^\s*// Kept ")
+
+
+def files(folder):
+    found = sorted(glob.glob(f"{folder}/crates/*/src/*.rt"))
+    return [(os.path.relpath(f, folder), open(f, encoding="utf-8").read().split("\n")) for f in found]
+
+
+def code(lines):
+    return [re.sub(r"//.*", "", line) for line in lines]
+
+
+def functions(lines):
+    """(first line, name, header, body) of each function, by braces and indent."""
+    i = 0
+    while i < len(lines):
+        head = re.match(r"( *)(?:pub(?:\(crate\))? )?(?:final )?fn (\w+)", lines[i])
+        if not head:
+            i += 1
+            continue
+        indent, start = head.group(1), i
+        end = i
+        while end < len(lines) and not re.match(rf"{indent}\}}|.*;\s*$" if end == start else rf"{indent}\}}", lines[end]):
+            end += 1
+        text = lines[start : end + 1]
+        opening = next((k for k, line in enumerate(text) if k and line.rstrip() in (indent + "{", indent + "    {")), None)
+        if opening is None:
+            opening = next((k for k, line in enumerate(text) if line.rstrip().endswith("{")), len(text))
+        yield start, head.group(2), text[: opening + 1], text[opening + 1 :]
+        i = end + 1
+
+
+SPELT = [
+    # a match on an Option or a Result whose arms spell out one of its methods
+    re.compile(r"^\s*None => (None|false|0|\d+|Ok\(None\)|Ok\(\w+\)|head\.\S+|Err\(.*\)),$"),
+    re.compile(r"^\s*Err\(_\) => .*,$"),
+    re.compile(r"^\s*Err\(fault\) => (return )?Ok\(Err\(fault\)\),$"),
+    re.compile(r"^\s*(None|_) => None,$"),
+]
+
+
+def point1(name, lines, out):
+    for k, line in enumerate(lines):
+        if re.search(r"Result<Result<|-> Option<Refusal>|fn kind_number|const KIND: u8|== <\w+ as Label>::|!= <\w+ as Label>::", line):
+            out.append((1, name, k, line.strip()))
+        elif any(p.match(line) for p in SPELT):
+            out.append((1, name, k, line.strip()))
+        elif re.match(r"\s*let (Some|Ok)\(.*\) = .* else \{$", line) and re.match(r"\s*return (None|Some\(\w+\));$", lines[k + 1]):
+            out.append((1, name, k, line.strip()))
+        elif re.match(r"\s*if let Some\((\w+)\) = .*\{$", line) and re.match(r"\s*return Err\(", lines[k + 1]):
+            out.append((1, name, k, line.strip()))
+        elif re.search(r"fn .*&mut .*-> bool$", line):
+            out.append((1, name, k, line.strip()))
+
+
+def point3(name, lines, out):
+    """A `while`, and a `for` over a range whose variable finds an element, or which pushes or breaks with none."""
+    for k, line in enumerate(lines):
+        if re.match(r"\s*while (?!let)", line):
+            out.append((3, name, k, line.strip()))
+            continue
+        loop = re.match(r"(\s*)for (\w+) in [^|]*\.\.", line)
+        if not loop:
+            continue
+        end = k + 1
+        while end < len(lines) and not lines[end].startswith(loop.group(1) + "}"):
+            end += 1
+        body = " ".join(lines[k + 1 : end])
+        v = loop.group(2)
+        finds = rf"\[[^\]]*\b{v}\b|\b(?:get|slot|slot_at|put_slot|answer|heard|sent|level|place)\([^;]*\b{v}\b"
+        if re.search(finds, body) or (v.startswith("_") and re.search(r"\.push\(|break;", body)):
+            out.append((3, name, k, line.strip()))
+
+
+def point4(name, lines, out):
+    for k, line in enumerate(lines):
+        if re.search(r"fn (compare|is_below|is_equal|is_same|by_number|same_slots|is_later|digit)\b", line):
+            out.append((4, name, k, line.strip()))
+        elif re.search(r"(?<!self) as (usize|u8|u16|u32)\b", line):
+            out.append((4, name, k, line.strip()))
+        elif re.search(r"/ 10_000_000|\.wrapping_mul\(16\)", line):
+            out.append((4, name, k, line.strip()))
+
+
+def point6(name, lines, out):
+    if "_tests/" in name:
+        return
+    # the library of scripts has no heap of its own
+    if name.startswith("crates/script/"):
+        out.extend((6, name, k, line.strip()) for k, line in enumerate(lines) if re.search(r": (mut )?Vec<", line))
+    for k, line in enumerate(lines):
+        if re.search(r"^\s*(pub )?(pub\(crate\) )?len: usize,|\bcount: usize,$|= \[.*; [0-9_]+\];|start >= items\.len|: \[Option<Rule>; 8\],", line):
+            out.append((6, name, k, line.strip()))
+
+
+def point7(name, lines, out):
+    for k, line in enumerate(lines):
+        if re.search(r"match vote|if more == 0|match stamp_named", line):
+            out.append((7, name, k, line.strip()))
+
+
+def point5(texts, out):
+    """Clauses that stand in three functions or more, and functions of six parameters or more."""
+    clauses = defaultdict(list)
+    for name, lines in texts:
+        crate = name.split("/")[1]
+        for start, fn, head, body in functions(lines):
+            for k, line in enumerate(head):
+                found = re.match(r"\s*requires (\w+ )?\{ (.*) \}", line)
+                if found:
+                    clauses[crate, found.group(2)].append((name, start + k, line.strip()))
+            # the parameters stand before the clauses
+            text = " ".join(head)
+            text = re.split(r"\b(?:requires|ensures)\b", text)[0]
+            many = len(re.findall(r"\b\w+: ", text[text.find("(") :]))
+            if many >= 6:
+                out.append((5, name, start, f"fn {fn}: {many} parameters"))
+    for same in clauses.values():
+        if len(same) >= 3:
+            out.extend((5, name, k, line) for name, k, line in same)
+
+
+def shape(body):
+    """The tokens of a body, with each name of its own as one word."""
+    return re.findall(r"[a-z_]\w*!?(?=\()|[^\sa-zA-Z_0-9]|\b(?:for|if|let|match|return|while|else)\b", " ".join(body))
+
+
+def point2(texts, out):
+    """Functions of one crate whose bodies have the same shape."""
+    by_crate = defaultdict(list)
+    for name, lines in texts:
+        for start, fn, head, body in functions(lines):
+            tokens = shape(body)
+            if len(tokens) >= 20 and len(body) > 4 and "tests" not in name:
+                by_crate[name.split("/")[1]].append((name, start, fn, tokens))
+    for found in by_crate.values():
+        for k, (name, start, fn, tokens) in enumerate(found):
+            for other in found[:k]:
+                if difflib.SequenceMatcher(None, tokens, other[3], autojunk=False).ratio() >= 0.85:
+                    out.append((2, name, start, f"fn {fn}, like {other[2]} of {other[0]}"))
+                    break
+
+
+def main():
+    words = [w for w in sys.argv[1:] if w != "--count"]
+    folder = words[0] if words else "."
+    raw = files(folder)
+    texts = [(name, code(lines)) for name, lines in raw]
+    out = []
+    for name, lines in texts:
+        for point in (point1, point3, point4, point6, point7):
+            point(name, lines, out)
+    point2(texts, out)
+    point5(texts, out)
+    of = dict(raw)
+    kept = []
+    for point, name, k, _ in out:
+        near = of[name][max(0, k - 6) : k + 1]
+        head = of[name][:8] if point in (2, 5) else []
+        kept.append(any(KEPT.search(line) for line in near + head))
+    if "--count" not in sys.argv:
+        for (point, name, k, line), stays in sorted(zip(out, kept)):
+            print(f"{point} {name}:{k + 1}: {'(kept) ' if stays else ''}{line}")
+    for point in range(1, 8):
+        all_of = [stays for (p, *_), stays in zip(out, kept) if p == point]
+        print(f"point {point}: {len(all_of)} places, {sum(all_of)} with a reason beside them")
+
+
+main()
