@@ -128,7 +128,8 @@ def point5(texts, out):
             # the parameters stand before the clauses
             text = " ".join(head)
             text = re.split(r"\b(?:requires|ensures)\b", text)[0]
-            many = len(re.findall(r"\b\w+: ", text[text.find("(") :]))
+            text = re.sub(r"^\s*(pub(\(crate\))? )?fn \w+(<.*?>)?(?=\()", "", text)
+            many = len(re.findall(r"\b\w+: ", text))
             if many >= 6:
                 out.append((5, name, start, f"fn {fn}: {many} parameters"))
     for same in clauses.values():

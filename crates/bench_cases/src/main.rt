@@ -12,6 +12,7 @@ use std::io::Read;
 const MOST: u64 = 1_000_000;
 
 // What a hex digit stands for; a capital is none.
+// Kept a function: `to_digit` takes capitals too, which here are skipped like all that is no digit.
 fn digit(byte: &u8) -> Option<u8> {
     if byte.is_ascii_uppercase() {
         return None;

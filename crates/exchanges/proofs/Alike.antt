@@ -1,9 +1,10 @@
 -- What the rounds fill does not depend on what the slots held before.
-use Rattle.std.proofs.Common.{◌≡◌, ℕ, zero, suc, ◌<◌, ◌≤◌, cond, ◌&&◌, eqb, List, [], ◌∷◌, length, fold, Option, sym, ap, ◌∙◌, subst, inl, inr, arith}
+use Rattle.std.proofs.lemmas.Grind.{common_steps}
+use Rattle.std.proofs.Common.{◌≡◌, ℕ, zero, suc, ◌<◌, ◌≤◌, List, [], ◌∷◌, length, fold, Option, sym, ap, ◌∙◌, subst, inl, inr, arith}
 use Rattle.std.specs.List.{AllByRecursion}
 use Rattle.std.proofs.lemmas.Bool.{cases_eq}
 use Rattle.exchanges.specs.Plane.{Plane, turn, carry, after}
-use Rattle.exchanges.specs.Trees.{IsPath, same_path, Hop, hops, Run, hop, fill_round, fill}
+use Rattle.exchanges.specs.Trees.{IsPath, Hop, hops, Run, hop, fill_round, fill}
 use Rattle.exchanges.specs.Members.{In, At, in_hops, all_hops}
 use Rattle.exchanges.specs.Fill.{put_same, put_shorter}
 
@@ -15,10 +16,10 @@ pub record Alike {I : Type 0} (n k : ℕ) (r r' : Run I) : Type 0 where
 module _ {I : Type 0} (n k : ℕ) where
   module _ (r r' : Run I) (h : Hop) (a : Alike n k r r') (at : At n k h) where
     value : r.trees h.from h.path ≡ r'.trees h.from h.path
-    value = a.short h.from h.path at.1.0 at.1.2 (omega (arith, at.2))
+    value = grind (arith, common_steps)
 
     answer : r.plane.answer [] h.from h.to (r.trees h.from h.path) ≡ r'.plane.answer [] h.from h.to (r'.trees h.from h.path)
-    answer = ap (λ (b : Plane I). b.answer [] h.from h.to (r.trees h.from h.path)) a.planes ∙ ap (r'.plane.answer [] h.from h.to) value
+    answer = grind (arith, common_steps)
 
     hop_alike : Alike n k (hop r h) (hop r' h)
     hop_alike = record {
@@ -27,7 +28,7 @@ module _ {I : Type 0} (n k : ℕ) where
     }
 
     hop_same : (p : ℕ) (β : List ℕ) → r.trees p β ≡ r'.trees p β → (hop r h).trees p β ≡ (hop r' h).trees p β
-    hop_same p β e = ap (λ (x : Option I). cond (eqb p h.to && same_path β (h.from ∷ h.path)) x (r.trees p β)) answer ∙ ap (cond (eqb p h.to && same_path β (h.from ∷ h.path)) (r'.plane.answer [] h.from h.to (r'.trees h.from h.path))) e
+    hop_same p β e = grind (arith, common_steps)
 
     hop_made : (hop r h).trees h.to (h.from ∷ h.path) ≡ (hop r' h).trees h.to (h.from ∷ h.path)
     hop_made = put_same r.trees h.to (h.from ∷ h.path) _ ∙ answer ∙ sym (put_same r'.trees h.to (h.from ∷ h.path) _)

@@ -1,6 +1,7 @@
 -- What it says that no refusal is due. Assumes nothing.
+use Rattle.std.proofs.lemmas.Grind.{common_steps}
 use Rattle.std.proofs.Common.{◌≡◌, ℕ, ◌+◌, ◌*◌, ◌≤◌, Bool, true, false, not, ltb, List, [], ◌∷◌, length, None, sym, refl, ap, ◌∙◌, arith}
-use Rattle.std.proofs.lemmas.Bool.{ltb-false, or_parts}
+use Rattle.std.proofs.lemmas.Bool.{ltb-false}
 use Rattle.labels.specs.Refusals.{first_row}
 use Rattle.exchanges.specs.Boards.{fits}
 use Rattle.exchanges.specs.Plane.{last_round}
@@ -16,16 +17,14 @@ pub undue : (n t r k : ℕ) (sh : Bool) → due n t sh r k ≡ None → Undue n 
 undue n t r k sh e = go (fits n t) sh (ltb last_round (r + k)) refl refl refl e
   where
     go : (f s l : Bool) → fits n t ≡ f → sh ≡ s → ltb last_round (r + k) ≡ l → first_row ((not f, 2) ∷ (s, 10) ∷ (l, 11) ∷ []) ≡ None → Undue n t r k sh
-    go true true l a b c h = absurd (let z : ◌≡◌ {A = ℕ} 0 1 = cc in omega arith)
-    go true false true a b c h = absurd (let z : ◌≡◌ {A = ℕ} 0 1 = cc in omega arith)
+    go true true l a b c h = absurd (cc)
+    go true false true a b c h = absurd (cc)
     go true false false a b c h = record { fit = a; room = b; timely = ltb-false _ _ c }
-    go false s l a b c h = absurd (let z : ◌≡◌ {A = ℕ} 0 1 = cc in omega arith)
+    go false s l a b c h = absurd (cc)
 
 -- there is a place for each pair of boards
 pub long_heard : {X : Type 0} (n : ℕ) (s h : List X) → short n s h ≡ false → n * n ≤ length h
-long_heard n s h e =
-    let parts = or_parts (ltb (length s) n) (ltb (length h) (n * n)) e in
-    ltb-false _ _ parts.1
+long_heard n s h e = grind (arith, common_steps)
 
 -- no refusal is due, by what calls answered: n boards, z for short memory, round q
 pub none_due : (n m t q r k : ℕ) (sh : ℕ → Bool) (z : Bool) → n ≡ m → z ≡ sh n → q ≡ r → due n t z q k ≡ None → due m t (sh m) r k ≡ None

@@ -1,5 +1,6 @@
 -- What the code of a firm exchange leaves, as its meaning says it. Assumes nothing.
-use Rattle.std.proofs.Common.{◌≡◌, ℕ, ◌+◌, ◌*◌, Bool, ◌||◌, ltb, List, [], ◌∷◌, ◌++◌, length, take, drop, Ok, Err, Option, Result, sym, ap, ◌∙◌, subst, arith}
+use Rattle.std.proofs.lemmas.Grind.{common_steps}
+use Rattle.std.proofs.Common.{◌≡◌, ℕ, ◌+◌, ◌*◌, Bool, ◌||◌, ltb, List, [], ◌∷◌, ◌++◌, length, take, drop, Ok, Err, Option, Result, sym, ap, ◌∙◌, arith}
 use Rattle.std.proofs.lemmas.List.{length-append, length-drop, drop_at}
 use Rattle.std.proofs.lemmas.Bool.{cond-true, ltb-false, or_parts}
 use Rattle.labels.specs.declared.refusal.Refusal.{Refusal}
@@ -11,14 +12,13 @@ use Rattle.exchanges.specs.Trees.{tree_size, grid, filled, reduced, workspace, t
 use Rattle.exchanges.specs.Left.{Left}
 use Rattle.exchanges.proofs.Dues.{undue}
 
--- the backplane, what is heard and the workspace after a run for n boards of which t may be bad
-pub record Done {I : Type 0} (same : I → I → Bool) (b b' : Plane I) (s h h' w w' : List (Option I)) (n t : ℕ) : Type 0 where
+-- the backplane and what is heard after a run for n boards of which t may be bad
+pub record Done {I : Type 0} (same : I → I → Bool) (b b' : Plane I) (s h h' : List (Option I)) (n t : ℕ) : Type 0 where
   pub plane : b' ≡ (filled n (t + 1) b (take n s)).plane
   pub heard : h' ≡ grid n (λ p q. reduced same n t (filled n (t + 1) b (take n s)).trees t p (q ∷ [])) ++ drop (n * n) h
-  pub work : w' ≡ workspace same n t (filled n (t + 1) b (take n s)).trees ++ drop (n * tree_size n t) w
 
-pub done_at : {I : Type 0} (same : I → I → Bool) (b b' : Plane I) (s h h' w w' : List (Option I)) (n m t f : ℕ) → n ≡ m → t ≡ f → Done same b b' s h h' w w' n t → Done same b b' s h h' w w' m f
-done_at same b b' s h h' w w' n m t f en et k = subst (λ (x : ℕ). Done same b b' s h h' w w' m x) et (subst (λ (x : ℕ). Done same b b' s h h' w w' x t) en k)
+pub done_at : {I : Type 0} (same : I → I → Bool) (b b' : Plane I) (s h h' : List (Option I)) (n m t f : ℕ) → n ≡ m → t ≡ f → Done same b b' s h h' n t → Done same b b' s h h' m f
+done_at same b b' s h h' n m t f en et k = grind (arith, common_steps)
 
 -- what is left keeps the slots past the workspace
 pub left_kept : {I B U : Type 0} (same : I → I → Bool) (t : ℕ) (plane : B → Plane I) (b b' : B) (s h h' w w' : List (Option I)) (r : Result U Refusal) → Ran plane (tree_run same t) b b' s (due (plane b).boards t (short (plane b).boards s h || ltb (length w) (tree_meaning same t (plane b)).workspace) (plane b).round (t + 1)) h h' r → Left same t (plane b) s w w' r → length w' ≡ length w → Kept (tree_meaning same t (plane b)).workspace w w' r

@@ -1,32 +1,27 @@
 -- What each board heard, read off the trees.
-use Rattle.std.proofs.Common.{◌≡◌, ℕ, zero, suc, ◌+◌, ◌-◌, ◌*◌, ◌/◌, ◌%◌, ◌<◌, ◌≤◌, Bool, List, [], ◌∷◌, ◌++◌, map, length, get_or, take, drop, None, Option, sym, refl, ap, ◌∙◌, zero-mul, suc-mul, mul-le-mul, add-one, arith}
+use Rattle.std.proofs.lemmas.Grind.{common_steps}
+use Rattle.std.proofs.Common.{◌≡◌, ℕ, ◌+◌, ◌-◌, ◌*◌, ◌/◌, ◌%◌, ◌<◌, ◌≤◌, Bool, List, [], ◌∷◌, ◌++◌, map, length, get_or, take, drop, None, Option, sym, refl, ap, ◌∙◌, suc-mul, add-one, arith}
 use borrow.Rule.Slice.PartMut.{put_mid}
 use Rattle.std.specs.List.{range_with_len}
 use Rattle.std.proofs.lemmas.List.{append_assoc, drop-drop, drop_at, take_at, ext_get_or, length-take, length-drop, get_or-take, get_or-drop, map-append}
 use Rattle.std.proofs.lemmas.List.FromFn.{length-map-range_with_len, get_or-map-range_with_len}
 use Rattle.std.proofs.lemmas.Nat.{div_below, mod_below, div-mul-add, mod-mul-add}
 use Rattle.exchanges.specs.declared.path.Shape.{Shape}
-use Rattle.exchanges.specs.Trees.{Trees, start, grid, reduced, tree_size, workspace}
+use Rattle.exchanges.specs.Trees.{Trees, grid, reduced, tree_size, workspace}
 use Rattle.exchanges.specs.Slots.{Stands, reduced_down}
 use Rattle.exchanges.specs.Counts.{all_counting, map_same}
+use Rattle.exchanges.specs.Places.{above_none}
 use Rattle.exchanges.specs.Ranks.{place_single}
-use Rattle.exchanges.proofs.Slots.{start_mono}
 use Rattle.exchanges.proofs.Settle.{all_reduced, beyond_kept}
 use Rattle.exchanges.proofs.Spread.{counting_append, workspace_is}
 
-some_boards : (n k : ℕ) → k < n * n → 0 < n
-some_boards zero k l = absurd (omega (arith, zero-mul 0))
-some_boards (suc n) k l = omega arith
-
 -- the first k places of one of n rows of w places
 pub row_below : (n w p k slots : ℕ) → n * w ≤ slots → p < n → k ≤ w → p * w + k ≤ slots
-row_below n w p k slots holds l few = omega (arith, suc-mul p w, mul-le-mul {n₁ = suc p} {m₁ = w} {n₂ = n} {m₂ = w} l (omega arith))
+row_below n w p k slots holds l few = grind (arith, common_steps)
 
 -- the slots of the paths of one board stand first in a board's tree
 pub row_in : (s : Shape) (slots p : ℕ) → s.n * s.size ≤ slots → p < s.n → p * s.size + s.n ≤ slots
-row_in s slots p holds l =
-    let e : 2 + s.t ≡ s.t + 2 = omega arith in
-    row_below s.n s.size p s.n slots holds l (omega (arith, s.sized, start_mono s.n 2 s.t, ap (start s.n) e, place_single s.n 0))
+row_in s slots p holds l = grind (arith, common_steps)
 
 module _ {I : Type 0} (n size : ℕ) (ws : List (Option I)) where
   abbrev pub cell : ℕ → Option I
@@ -56,7 +51,7 @@ pub grid_reduced : {I : Type 0} (same : I → I → Bool) (n t size : ℕ) (size
 grid_reduced {I} same n t size sized own ws ws₂ T st room e =
     map_same _ _ (range_with_len 0 (n * n)) (all_counting _ 0 (n * n) (λ k u l.
     let small : k < n * n = omega arith in
-    let pos = some_boards n k small in
+    let pos = above_none n k small in
     let deep : t + 1 - 1 ≡ t = omega arith in
     ap (λ (x : List (Option I)). get_or x (k / n * size + k % n) None) e ∙ ap (λ (i : ℕ). get_or (reduced_down same n t size ws t) (k / n * size + i) None) (sym (place_single n (k % n))) ∙ all_reduced same n t size sized own ws T st room (k / n) (k % n ∷ []) (div_below k n n pos small) (mod_below k n pos, refl, tt) (omega arith) (omega arith) ∙ ap (λ (m : ℕ). reduced same n t T m (k / n) (k % n ∷ [])) deep))
 

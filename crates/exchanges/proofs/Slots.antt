@@ -1,5 +1,6 @@
 -- Where the slots stand, and one carry more.
-use Rattle.std.proofs.Common.{◌≡◌, ℕ, zero, suc, ◌+◌, ◌-◌, ◌*◌, ◌<◌, ◌≤◌, leb, ◌≢◌, List, [], ◌∷◌, length, get_or, set, None, fold, Option, refl, ap, ◌∙◌, add-one, arith}
+use Rattle.std.proofs.lemmas.Grind.{common_steps}
+use Rattle.std.proofs.Common.{◌≡◌, ℕ, zero, suc, ◌+◌, ◌-◌, ◌*◌, ◌<◌, ◌≤◌, ◌≢◌, List, [], ◌∷◌, length, get_or, set, None, fold, Option, refl, ap, ◌∙◌, add-one, arith}
 use Rattle.std.proofs.lemmas.Nat.{mul-add-lt}
 use Rattle.std.proofs.lemmas.List.{get_or-set_same, get_or-set_other}
 use Rattle.std.proofs.lemmas.List.Sums.{fold_push}
@@ -11,8 +12,6 @@ use Rattle.exchanges.specs.Trees.{IsPath, Hop, place, start, tree_size}
 use Rattle.exchanges.specs.Slots.{trail, slot, held, Work, carried, hops_from, Worked}
 use Rattle.exchanges.specs.Ranks.{rank_below}
 use Rattle.exchanges.proofs.Trail.{length_trail}
-use Rattle.exchanges.proofs.Table.{passes, passed}
-use Rattle.std.proofs.lemmas.Bool.{leb-true}
 
 pub start_up : (n k : ℕ) → start n k ≤ start n (suc k)
 start_up n zero = omega arith
@@ -41,12 +40,7 @@ trail_add bs k q l = ap (trail (set bs k q)) (add-one k) ∙ cc (get_or-set_same
 
 module _ {I : Type 0} (n size : ℕ) (own : List (Option I)) where
   pub work_step : (w : Work I) (h : Hop) (b b' : Plane I) (ws : List (Option I)) (item r : Option I) (at : ℕ) → Worked b ws w → item ≡ held n size own ws h.from h.path → r ≡ b.answer [] h.from h.to item → b' ≡ after b (carry h.from h.to item) → at ≡ slot n size h.to (h.from ∷ h.path) → Worked b' (set ws at r) (carried n size own w h)
-  work_step w h b b' ws item r at k i a f s =
-      let item_is : item ≡ held n size own w.slots h.from h.path = i ∙ ap (λ (x : List (Option I)). held n size own x h.from h.path) k.slots_is in
-      record {
-        plane_is = f ∙ ap (λ (x : Plane I). after x (carry h.from h.to item)) k.plane_is ∙ ap (λ (x : Option I). after w.plane (carry h.from h.to x)) item_is;
-        slots_is = ap (λ (x : List (Option I)). set x at r) k.slots_is ∙ ap (λ (x : ℕ). set w.slots x r) s ∙ ap (set w.slots (slot n size h.to (h.from ∷ h.path))) (a ∙ ap (λ (x : Plane I). x.answer [] h.from h.to item) k.plane_is ∙ ap (w.plane.answer [] h.from h.to) item_is);
-      }
+  work_step w h b b' ws item r at k i a f s = grind (arith, common_steps)
 
   abbrev one : List ℕ → ℕ → ℕ → Hop
   one α q p = record { path = α; from = q; to = p }
@@ -59,7 +53,7 @@ held_at n size own ws q [] l = absurd (omega arith)
 held_at n size own ws q (a ∷ α) l = refl
 
 pub all_small : (n t : ℕ) → n ≤ most_boards → 3 * t < n → n * tree_size n t ≤ 1813
-all_small n t ln lt = leb-true _ _ (passed (λ j. leb (n * tree_size n j) 1813) 3 t (passed (λ m. passes (λ j. leb (m * tree_size m j) 1813) 3) 8 n refl (omega arith)) (omega arith))
+all_small n t ln lt = grind (arith, common_steps)
 
 -- the place of a path's slot is below the length, and small
 pub slot_in : (path : Path) (slots p at : ℕ) → path.shape.n * path.shape.size ≤ slots → p < path.shape.n → 1 ≤ path.len → at ≡ place path.shape.n (trail path.boards path.len) → (p * path.shape.size + at < slots) × (p * path.shape.size + at < 1813)

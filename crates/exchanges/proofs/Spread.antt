@@ -1,6 +1,8 @@
 -- The paths of a tree in their order have the places from 0 on, so that the trees of all boards are one list of slots. Assumes nothing.
 use Rattle.std.proofs.Common.{◌≡◌, ℕ, zero, suc, ◌+◌, ◌-◌, ◌*◌, ◌<◌, ◌≤◌, Bool, List, [], ◌∷◌, ◌++◌, map, length, get_or, take, drop, None, Option, sym, refl, ap, ◌∙◌, suc-mul, zero-mul, add-one, arith, take-append-drop}
 use Rattle.std.specs.List.{range_with_len, flat_map, AllByRecursion}
+use Rattle.std.proofs.lemmas.List.Concat.{flat_map-append}
+use Rattle.std.proofs.lemmas.List.Folds.{flat_map-map}
 use Rattle.std.proofs.lemmas.List.{map-append, ext_get_or, length-map, length-take, get_or-map, get_or-take, append-nil}
 use Rattle.std.proofs.lemmas.Simd.{map-map}
 use Rattle.std.proofs.lemmas.List.FromFn.{length-range_with_len, get_or-range_with_len, fill_by_all}
@@ -9,7 +11,7 @@ use Rattle.exchanges.specs.Trees.{IsPath, Trees, others, level, rank, place, sta
 use Rattle.exchanges.specs.Slots.{slot}
 use Rattle.exchanges.specs.Counts.{length_others, all_counting, map_same}
 use Rattle.exchanges.specs.Ranks.{all_paths, all_joined_at}
-use Rattle.exchanges.proofs.Orders.{joined_append, joined_alike, joined_map}
+use Rattle.exchanges.proofs.Orders.{joined_alike}
 use Rattle.exchanges.proofs.Children.{other_index}
 
 pub counting_append : (a m k : ℕ) → range_with_len a (m + k) ≡ range_with_len a m ++ range_with_len (a + m) k
@@ -49,7 +51,7 @@ child_ranks n k α path e =
 level_ranks : (n k : ℕ) → map (rank n) (level n k) ≡ range_with_len 0 (paths_of n k)
 level_ranks n zero = refl
 level_ranks n (suc k) =
-    map_joined (rank n) (children n) (level n k) ∙ joined_alike (λ α. map (rank n) (children n α)) (λ α. range_with_len (rank n α * (n - k)) (n - k)) (level n k) (All-weaker (λ α. IsPath n α × (length α ≡ k)) _ (λ α h. child_ranks n k α h.0 h.1) (level n k) (all_paths n k)) ∙ sym (joined_map (λ i. range_with_len (i * (n - k)) (n - k)) (rank n) (level n k)) ∙ ap (flat_map (λ i. range_with_len (i * (n - k)) (n - k))) (level_ranks n k) ∙ blocks (n - k) 0 (paths_of n k) ∙ ap (λ (x : ℕ). range_with_len x (paths_of n k * (n - k))) (zero-mul (n - k))
+    map_joined (rank n) (children n) (level n k) ∙ joined_alike (λ α. map (rank n) (children n α)) (λ α. range_with_len (rank n α * (n - k)) (n - k)) (level n k) (All-weaker (λ α. IsPath n α × (length α ≡ k)) _ (λ α h. child_ranks n k α h.0 h.1) (level n k) (all_paths n k)) ∙ sym (flat_map-map (λ i. range_with_len (i * (n - k)) (n - k)) (rank n) (level n k)) ∙ ap (flat_map (λ i. range_with_len (i * (n - k)) (n - k))) (level_ranks n k) ∙ blocks (n - k) 0 (paths_of n k) ∙ ap (λ (x : ℕ). range_with_len x (paths_of n k * (n - k))) (zero-mul (n - k))
 
 level_places : (n k : ℕ) → map (place n) (level n k) ≡ range_with_len (start n k) (paths_of n k)
 level_places n k =
@@ -62,7 +64,7 @@ first_places n (suc m) =
     let f : ℕ → List ℕ = λ k. map (place n) (level n k) in
     let last : 1 + m ≡ suc m = omega arith in
     let from : 0 + start n (suc m) ≡ start n (suc m) = omega arith in
-    ap (flat_map f) (counting_last 1 m) ∙ joined_append f (range_with_len 1 m) ((1 + m) ∷ []) ∙ ap (λ l. l ++ (f (1 + m) ++ [])) (first_places n m) ∙ ap (λ l. range_with_len 0 (start n (suc m)) ++ l) (append-nil (f (1 + m)) ∙ ap f last ∙ level_places n (suc m) ∙ ap (λ (x : ℕ). range_with_len x (paths_of n (suc m))) (sym from)) ∙ sym (counting_append 0 (start n (suc m)) (paths_of n (suc m)))
+    ap (flat_map f) (counting_last 1 m) ∙ flat_map-append f (range_with_len 1 m) ((1 + m) ∷ []) ∙ ap (λ l. l ++ (f (1 + m) ++ [])) (first_places n m) ∙ ap (λ l. range_with_len 0 (start n (suc m)) ++ l) (append-nil (f (1 + m)) ∙ ap f last ∙ level_places n (suc m) ∙ ap (λ (x : ℕ). range_with_len x (paths_of n (suc m))) (sym from)) ∙ sym (counting_append 0 (start n (suc m)) (paths_of n (suc m)))
 
 tree_places : (n t : ℕ) → map (place n) (paths n t) ≡ range_with_len 0 (tree_size n t)
 tree_places n t =

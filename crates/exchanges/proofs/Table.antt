@@ -27,6 +27,3 @@ level_rule n k pos ln one lk =
 
 pub paths_small : (n k : ℕ) → n ≤ most_boards → k ≤ 3 → paths_of n k ≤ 210
 paths_small n k ln lk = leb-true _ _ (passed (λ j. leb (paths_of n j) 210) 4 k (passed (λ m. passes (λ j. leb (paths_of m j) 210) 4) 8 n refl (omega arith)) (omega arith))
-
-pub start_small : (n k : ℕ) → n ≤ most_boards → k ≤ 4 → start n k ≤ 259
-start_small n k ln lk = leb-true _ _ (passed (λ j. leb (start n j) 259) 5 k (passed (λ m. passes (λ j. leb (start m j) 259) 5) 8 n refl (omega arith)) (omega arith))

@@ -1,8 +1,10 @@
 -- Counting boards: those of a list that pass a test, those on a path, those left over.
+use Rattle.std.proofs.lemmas.Grind.{common_steps}
 use Rattle.std.specs.Prelude.{◌≡◌, ℕ, zero, suc, ◌+◌, ◌<◌, ◌≤◌, Bool, true, false, cond, not, ◌&&◌, ◌||◌, List, [], ◌∷◌, map, length, count_by, filter, ◌==◌, ◌≢◌, refl}
-use Rattle.std.proofs.Common.{sym, ap, ◌∙◌, inl, inr, arith, zero-add, add-one}
+use Rattle.std.proofs.Common.{sym, ap, ◌∙◌, inl, inr, arith, add-one}
 use Rattle.std.specs.List.{range_with_len, AllByRecursion}
-use Rattle.std.proofs.lemmas.List.Sums.{sum_by-cons, length-filter}
+use Rattle.std.proofs.lemmas.List.Sums.{length-filter}
+use Rattle.std.proofs.lemmas.List.Filters.{length-filter_both, sum_by-filter_both}
 use Rattle.std.proofs.lemmas.List.FromFn.{length-range_with_len, sum_by-map-range_with_len_more}
 use Rattle.std.proofs.lemmas.List.{map-id}
 use Rattle.std.proofs.lemmas.Bool.{cases_Bool, cases_eq, eq-eqb, ne_eqb, eqb-false, or_parts, not_from_false, not-true, cond_both}
@@ -12,10 +14,10 @@ use Rattle.exchanges.specs.Trees.{on, others, IsPath}
 
 module _ {X : Type 0} where
   pub count_yes : (p : X → Bool) (x : X) (xs : List X) → p x ≡ true → count_by p (x ∷ xs) ≡ 1 + count_by p xs
-  count_yes p x xs e = sum_by-cons (λ y. cond (p y) 1 0) x xs ∙ ap (λ (b : Bool). cond b 1 0 + count_by p xs) e
+  count_yes p x xs e = grind (arith, common_steps)
 
   pub count_no : (p : X → Bool) (x : X) (xs : List X) → p x ≡ false → count_by p (x ∷ xs) ≡ count_by p xs
-  count_no p x xs e = sum_by-cons (λ y. cond (p y) 1 0) x xs ∙ ap (λ (b : Bool). cond b 1 0 + count_by p xs) e ∙ zero-add _
+  count_no p x xs e = grind (arith, common_steps)
 
   -- a test that passes wherever another does counts no less
   pub count_le : (p q : X → Bool) (xs : List X) → AllByRecursion (λ x. p x ≡ true → q x ≡ true) xs → count_by p xs ≤ count_by q xs
@@ -31,18 +33,10 @@ module _ {X : Type 0} where
   count_all p (x ∷ xs) h = omega (arith, count_yes p x xs h.0, count_all p xs h.1)
 
   pub count_not : (p : X → Bool) (xs : List X) → count_by p xs + count_by (λ x. not (p x)) xs ≡ length xs
-  count_not p [] = refl
-  count_not p (x ∷ xs) = elim (cases_Bool (p x)) [ inl e ↦ omega (arith, count_yes p x xs e, count_no (λ y. not (p y)) x xs (ap not e), count_not p xs) | inr e ↦ omega (arith, count_no p x xs e, count_yes (λ y. not (p y)) x xs (ap not e), count_not p xs) ]
-
-  -- a list shortened behind the same head, or behind none, counts no more
-  pub count_cons : (p : X → Bool) (x : X) (ks xs : List X) → count_by p ks ≤ count_by p xs → (count_by p (x ∷ ks) ≤ count_by p (x ∷ xs)) × (count_by p ks ≤ count_by p (x ∷ xs))
-  count_cons p x ks xs h = elim (cases_Bool (p x)) [ inl e ↦ (omega (arith, count_yes p x ks e, count_yes p x xs e), omega (arith, count_yes p x xs e)) | inr e ↦ (omega (arith, count_no p x ks e, count_no p x xs e), omega (arith, count_no p x xs e)) ]
+  count_not p xs = omega (arith, length-filter_both p (λ x. not (p x)) (λ x. refl) xs, length-filter p xs, length-filter (λ x. not (p x)) xs)
 
   pub count_kept : (p f : X → Bool) (xs : List X) → count_by p (filter f xs) ≤ count_by p xs
-  count_kept p f [] = omega arith
-  count_kept p f (x ∷ xs) =
-      let ih = count_cons p x (filter f xs) xs (count_kept p f xs) in
-      cond_both (f x) (x ∷ filter f xs) (filter f xs) (λ l. count_by p l ≤ count_by p (x ∷ xs)) (λ e. ih.0) (λ e. ih.1)
+  count_kept p f xs = omega (arith, sum_by-filter_both f (λ x. not (f x)) (λ x. refl) (λ x. cond (p x) 1 0) xs)
 
   pub all_kept : (P : X → Type 0) (f : X → Bool) (xs : List X) → AllByRecursion P xs → AllByRecursion (λ x. P x × (f x ≡ true)) (filter f xs)
   all_kept P f [] h = tt

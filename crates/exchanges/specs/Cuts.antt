@@ -1,45 +1,17 @@
 -- What cutting lines keeps of a backplane. Assumes nothing.
-use Rattle.std.specs.Prelude.{◌≡◌, ℕ, ◌<◌, ◌≤◌, Bool, true, false, cond, not, ◌&&◌, ◌||◌, ◌⊎◌, List, [], ◌∷◌, ◌++◌, None, Ok, Err, Option, Result, refl}
+use Rattle.std.specs.Prelude.{◌≡◌, ℕ, ◌<◌, ◌≤◌, Bool, true, false, cond, not, ◌||◌, ◌⊎◌, List, [], ◌∷◌, ◌++◌, None, Ok, Err, Result, refl}
 use Rattle.std.proofs.Common.{sym, ap, subst, ◌∙◌, inr}
-use Rattle.std.proofs.lemmas.Bool.{and_parts}
+use Rattle.std.proofs.lemmas.Bool.{cond_both, and_parts}
 use Rattle.std.proofs.lemmas.Bool.Decides.{Decides-below_and}
 use Rattle.labels.specs.declared.refusal.Refusal.{Refusal}
 use Rattle.exchanges.specs.declared.cut_lines.CutLines.{CutLines}
-use Rattle.exchanges.specs.Plane.{Plane, Call, turn, carry, Keeps, round_after, next_round, last_round, Turned, Carried}
+use Rattle.exchanges.specs.Plane.{Plane, Call, turn, carry, Keeps, round_after, next_round, last_round, Turned}
 use Rattle.exchanges.specs.CutLines.{cut, passed, each_below, uncut, cut_plane, cut_lines_plane}
 
 pub cut_turned : {I U B : Type 0} (plane : B → Plane I) (rows : List ℕ) (s t : B) (r : Result U Refusal) → Turned plane s t r → Turned {S = CutLines B} (cut_lines_plane plane) (record { rows = rows; below = s }) (record { rows = rows; below = t }) r
 cut_turned plane rows s t (Ok u) h = (h.0, ap (cut_plane rows) h.1)
 cut_turned {B = B} plane rows s t (Err e) h =
     (h.0, h.1, ap (λ (b : B). record { rows = rows; below = b }) h.2)
-
-module _ {I : Type 0} (rows : List ℕ) (b : Plane I) where
-  -- the plane where a carry has this test
-  abbrev by_test : ℕ → ℕ → Option I → Bool → Plane I
-  by_test s d x t = record {
-    boards = b.boards;
-    bad = b.bad;
-    round = b.round;
-    clear = λ r. b.clear r && uncut rows b.bad b.boards;
-    answer = λ l s' d' x'. cond (cut rows s' d') None (b.answer (cond t (passed rows l) (carry s d x ∷ passed rows l)) s' d' x');
-  }
-
-  pub cut_carried : (s d : ℕ) (x : Option I) → cut rows s d ≡ true → Carried (cut_plane rows b) (cut_plane rows b) s d x None
-  cut_carried s d x e = record {
-    answers = ap (λ t. cond t None (b.answer [] s d x)) (sym e);
-    leaves = ap (by_test s d x) (sym e);
-  }
-
-  pub uncut_carried : (b' : Plane I) (s d : ℕ) (x r : Option I) → cut rows s d ≡ false → Carried b b' s d x r → Carried (cut_plane rows b) (cut_plane rows b') s d x r
-  uncut_carried b' s d x r e h = record {
-    answers = h.answers ∙ ap (λ t. cond t None (b.answer [] s d x)) (sym e);
-    leaves = ap (cut_plane rows) h.leaves ∙ ap (by_test s d x) (sym e);
-  }
-
--- what holds of both ways of a test holds of the choice
-pub choose : {X : Type 0} (P : X → Type 0) (t : Bool) (a b : X) → P a → P b → P (cond t a b)
-choose P true a b h k = h
-choose P false a b h k = k
 
 passed_append : {I : Type 0} (rows : List ℕ) (l m : List (Call I)) → passed rows (l ++ m) ≡ passed rows l ++ passed rows m
 passed_append rows [] m = refl
@@ -53,7 +25,7 @@ round_passed : {I : Type 0} (rows : List ℕ) (r : ℕ) (l : List (Call I)) → 
 round_passed rows r [] = refl
 round_passed rows r (turn ∷ l) = round_passed rows (next_round r) l
 round_passed rows r (carry s d x ∷ l) =
-    choose (λ k. round_after r k ≡ round_after r l) (cut rows s d) (passed rows l) (carry s d x ∷ passed rows l) (round_passed rows r l) (round_passed rows r l)
+    cond_both (cut rows s d) (passed rows l) (carry s d x ∷ passed rows l) (λ k. round_after r k ≡ round_after r l) (λ _. round_passed rows r l) (λ _. round_passed rows r l)
 
 pub each_at : (f : ℕ → Bool) (n k : ℕ) → each_below f n ≡ true → k < n → f k ≡ true
 each_at f n k h = (Decides-below_and f (λ j. f j ≡ true) (each_below f) (λ j. (λ e. e, λ e. e)) refl (λ _. refl) n).0 h k
@@ -68,13 +40,13 @@ uncut_at rows bad n s d h sn dn es ed =
 
 pub cut_keeps : {I : Type 0} (rows : List ℕ) (b : Plane I) → Keeps b → Keeps (cut_plane rows b)
 cut_keeps {I} rows b k = record {
-  faithful = λ l s d x p. choose (λ y. (y ≡ x) ⊎ (y ≡ None)) (cut rows s d) None _ (inr refl) (k.faithful (passed rows l) s d x p);
+  faithful = λ l s d x p. cond_both (cut rows s d) None _ (λ y. (y ≡ x) ⊎ (y ≡ None)) (λ _. inr refl) (λ _. k.faithful (passed rows l) s d x p);
   clears = λ l s d x p q c.
       let parts = and_parts (b.clear (round_after b.round l)) (uncut rows b.bad b.boards) c in
       let e = uncut_at rows b.bad b.boards s d parts.1 p.0 q.0 p.1 q.1 in
       ap (λ t. cond t None (b.answer (passed rows l) s d x)) e ∙ k.clears (passed rows l) s d x p q (ap b.clear (round_passed rows b.round l) ∙ parts.0);
-  no_sender = λ l s d x h. choose (λ y. y ≡ None) (cut rows s d) None _ refl (k.no_sender (passed rows l) s d x h);
-  no_receiver = λ l s d x h. choose (λ y. y ≡ None) (cut rows s d) None _ refl (k.no_receiver (passed rows l) s d x h);
+  no_sender = λ l s d x h. cond_both (cut rows s d) None _ (λ y. y ≡ None) (λ _. refl) (λ _. k.no_sender (passed rows l) s d x h);
+  no_receiver = λ l s d x h. cond_both (cut rows s d) None _ (λ y. y ≡ None) (λ _. refl) (λ _. k.no_receiver (passed rows l) s d x h);
   stays = λ l m s d x h.
       ap (λ y. cond (cut rows s d) None y) (ap (λ c. b.answer c s d x) (passed_append rows l (turn ∷ m)) ∙ k.stays (passed rows l) (passed rows m) s d x (subst (λ r. last_round ≤ r) (sym (round_passed rows b.round l)) h) ∙ ap (λ c. b.answer c s d x) (sym (passed_append rows l m)));
 }

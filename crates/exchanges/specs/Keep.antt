@@ -1,12 +1,13 @@
 -- The tree exchange keeps the meaning of an exchange over every backplane that keeps its own. Assumes nothing.
-use Rattle.std.specs.Prelude.{◌≡◌, ℕ, zero, suc, ◌+◌, ◌*◌, ◌/◌, ◌%◌, ◌<◌, ◌≤◌, Bool, true, ◌⊎◌, List, [], ◌∷◌, length, None, count_by, Option, nat_le, nat_lt, slice_index_or, refl}
+use Rattle.std.proofs.lemmas.Grind.{common_steps}
+use Rattle.std.specs.Prelude.{◌≡◌, ℕ, zero, suc, ◌+◌, ◌*◌, ◌/◌, ◌%◌, ◌<◌, ◌≤◌, Bool, true, ◌⊎◌, List, [], ◌∷◌, length, None, count_by, Option, slice_index_or, refl}
 use Rattle.std.proofs.Common.{sym, ap, ◌∙◌, inl, inr, arith}
-use Rattle.std.proofs.lemmas.Bool.{cases_Bool, cases_eq, and_parts, ltb-true, leb-true}
+use Rattle.std.proofs.lemmas.Bool.{cases_Bool, cases_eq, and_parts}
 use Rattle.std.proofs.lemmas.List.FromFn.{length-map-range_with_len, get_or-map-range_with_len}
 use Rattle.std.proofs.lemmas.Nat.{mul-add-lt, div-mul-add, mod-mul-add}
 use Rattle.std.specs.List.{range_with_len}
 use Rattle.labels.specs.Item.{Tells}
-use Rattle.exchanges.specs.Boards.{fits, Sound, most_boards}
+use Rattle.exchanges.specs.Boards.{fits, Sound}
 use Rattle.exchanges.specs.Plane.{Plane}
 use Rattle.exchanges.specs.Exchange.{heard}
 use Rattle.exchanges.specs.Trees.{Trees, own, filled, reduced, grid, all_clear, tree_run, tree_way, TreesKeep}
@@ -28,10 +29,7 @@ clear_at clear r (suc k) i e l =
 
 -- counts that fit
 pub enough_boards : (n t : ℕ) → fits n t ≡ true → 3 * t < n
-enough_boards n t e = ltb-true (3 * t) n (and_parts (nat_le n most_boards) (nat_lt (3 * t) n) (and_parts (nat_lt 0 n) _ e).1).1
-
-pub few_boards : (n t : ℕ) → fits n t ≡ true → n ≤ most_boards
-few_boards n t e = leb-true n most_boards (and_parts (nat_le n most_boards) (nat_lt (3 * t) n) (and_parts (nat_lt 0 n) _ e).1).0
+enough_boards n t e = grind (arith, common_steps)
 
 -- one firm exchange
 module _ {I : Type 0} (same : I → I → Bool) (tells : Tells same) (t : ℕ) (b : Plane I) (s : List (Option I)) (begins : Begins t (t + 1) b s) (bears : Bears t b) where

@@ -13,7 +13,8 @@ pub place_apart : (n a b c d : ℕ) → b < n → d < n → a * n + b ≡ c * n 
 place_apart n a b c d h k e =
     (sym (div-mul-add a n b h) ∙ ap (λ m. m / n) e ∙ div-mul-add c n d k, sym (mod-mul-add a n b h) ∙ ap (λ m. m % n) e ∙ mod-mul-add c n d k)
 
-above_none : (n i : ℕ) → i < n * n → 0 < n
+-- there are boards where there are pairs of them
+pub above_none : (n i : ℕ) → i < n * n → 0 < n
 above_none zero i h = absurd (omega arith)
 above_none (suc n) i h = omega arith
 

@@ -12,12 +12,12 @@ cases_option None = inl refl
 cases_option (Some x) = inr (x, refl)
 
 pub some_none : {I : Type 0} {x : I} {A : Type 0} (o : Option I) → o ≡ Some x → o ≡ None → A
-some_none o e d = absurd (let z : ◌≡◌ {A = ℕ} 0 1 = cc in omega arith)
+some_none o e d = absurd (cc)
 
 module _ {I : Type 0} (same : I → I → Bool) where
   -- what is picked is held often enough
   pub picked_held : (need : ℕ) (all l : List (Option I)) (x : I) → picked same need all l ≡ Some x → need ≤ count_by (holds same x) all
-  picked_held need all [] x e = absurd (let z : ◌≡◌ {A = ℕ} 0 1 = cc in omega arith)
+  picked_held need all [] x e = absurd (cc)
   picked_held need all (None ∷ l) x e = picked_held need all l x e
   picked_held need all (Some y ∷ l) x e =
       let b = nat_le need (count_by (holds same y) all) in
@@ -37,7 +37,7 @@ module _ {I : Type 0} (same : I → I → Bool) where
     picked_some need all (None ∷ l) x h g e = picked_some need all l x h (omega (arith, count_no (holds same x) None l refl)) e
     picked_some need all (Some y ∷ l) x h g e =
         let b = nat_le need (count_by (holds same y) all) in
-        elim (cases_Bool b) [ inl d ↦ (let bad : Some y ≡ None = sym (cond-true b (Some y) (picked same need all l) d) ∙ e in let z : ◌≡◌ {A = ℕ} 0 1 = cc in omega arith) | inr d ↦ elim (cases_Bool (same x y)) [ inl s ↦ (let few = leb-false need (count_by (holds same y) all) d in let many = subst (λ (z : I). need ≤ count_by (holds same z) all) (tells.equal x y s) h in omega arith) | inr s ↦ picked_some need all l x h (omega (arith, count_no (holds same x) (Some y) l s)) (sym (cond-false b (Some y) (picked same need all l) d) ∙ e) ] ]
+        elim (cases_Bool b) [ inl d ↦ (let bad : Some y ≡ None = sym (cond-true b (Some y) (picked same need all l) d) ∙ e in cc) | inr d ↦ elim (cases_Bool (same x y)) [ inl s ↦ (let few = leb-false need (count_by (holds same y) all) d in let many = subst (λ (z : I). need ≤ count_by (holds same z) all) (tells.equal x y s) h in omega arith) | inr s ↦ picked_some need all l x h (omega (arith, count_no (holds same x) (Some y) l s)) (sym (cond-false b (Some y) (picked same need all l) d) ∙ e) ] ]
 
     held_count : (x : I) (m : ℕ) (l : List (Option I)) → Held x m l → count_by (holds same x) l ≡ m
     held_count x m [] end = refl

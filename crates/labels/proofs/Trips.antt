@@ -47,24 +47,23 @@ module _ {L : Type 0} (c : Coding L) (own : Own c) where
   }
     where
       some_of : (p q : ℕ) (l : L) (o : Option L) → read_as c p o ≡ Ok (l, q) → o ≡ Some l
-      some_of p q l None e = let z : ◌≡◌ {A = ℕ} 0 1 = cc in absurd (omega arith)
+      some_of p q l None e = absurd (cc)
       some_of p q l (Some x) e = let s : ◌≡◌ {A = L × ℕ} (x, p + c.width) (l, q) = cc in ap (λ z. Some z.0) s
 
       go : (b : List ℕ) (p q : ℕ) (l : L) → Bytes b → (t : Bool) → room c b p ≡ t → require t (13, p, Label) (read_as c p (c.read (take c.width (drop p b)))) ≡ Ok (l, q) → written c l b p ≡ b
       go b p q l k true r e = own_part b p l k (within b p r) (some_of p q l _ e)
-      go b p q l k false r e = let z : ◌≡◌ {A = ℕ} 0 1 = cc in absurd (omega arith)
+      go b p q l k false r e = absurd (cc)
 
       none_of : (p : ℕ) (o : Option L) → read_as c p o ≡ Err (16, p, Label) → o ≡ None
       none_of p None e = refl
-      none_of p (Some x) e = let z : ◌≡◌ {A = ℕ} 0 1 = cc in absurd (omega arith)
+      none_of p (Some x) e = absurd (cc)
 
       never : (b : List ℕ) (p : ℕ) (h : p + c.width ≤ length b) (l : L) → read_at c b p ≡ read_as c p (c.read (take c.width (drop p b))) → read_at c b p ≡ Err (16, p, Label) → written c l b p ≡ b → ⊥
       never b p h l was e w =
           let none : c.read (take c.width (drop p b)) ≡ None = none_of p _ (sym was ∙ e) in
           let part = part_of l b p h (sym (cond-true _ (laid (c.write l) p b) b (has_room b p h)) ∙ w) in
           let some : c.read (take c.width (drop p b)) ≡ Some l = ap c.read part ∙ own.back l in
-          let z : ◌≡◌ {A = ℕ} 0 1 = cc in
-          omega arith
+          cc
 
       only_none : (b : List ℕ) (p : ℕ) → Bytes b → (h : p + c.width ≤ length b) → ((l : L) → written c l b p ≡ b → ⊥) → read_at c b p ≡ Err (16, p, Label)
       only_none b p k h none = require_true (room c b p) _ _ (has_room b p h) ∙ at (c.read (take c.width (drop p b))) refl

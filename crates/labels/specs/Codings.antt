@@ -21,7 +21,7 @@ frame_is n f e = go (dec_lt n (2 ^ 32))
 
 frame_was : (n : ℕ) (f : FrameNumber) (d : Dec (n < 2 ^ 32)) → frame_if n d ≡ Some f → n ≡ f.number
 frame_was n f (yes h) e = let s : ◌≡◌ {A = FrameNumber} (record { number = n; fits = h }) f = cc in ap (λ z. z.number) s
-frame_was n f (no h) e = let z : ◌≡◌ {A = ℕ} 0 1 = cc in absurd (omega arith)
+frame_was n f (no h) e = absurd (cc)
 
 pub stamp_is : (m n : ℕ) (s : TriggerStamp) → m ≡ s.seconds → n ≡ s.ticks → stamp_of m n ≡ Some s
 stamp_is m n s e f = go (dec_lt m (2 ^ 32)) (dec_lt n 100000000)
@@ -35,8 +35,8 @@ stamp_was : (m n : ℕ) (s : TriggerStamp) (d : Dec (m < 2 ^ 32)) (k : Dec (n < 
 stamp_was m n s (yes h) (yes k) e =
     let t : ◌≡◌ {A = TriggerStamp} (record { seconds = m; ticks = n; fits = h; below = k }) s = cc in
     (ap (λ z. z.seconds) t, ap (λ z. z.ticks) t)
-stamp_was m n s (yes h) (no k) e = let z : ◌≡◌ {A = ℕ} 0 1 = cc in absurd (omega arith)
-stamp_was m n s (no h) k e = let z : ◌≡◌ {A = ℕ} 0 1 = cc in absurd (omega arith)
+stamp_was m n s (yes h) (no k) e = absurd (cc)
+stamp_was m n s (no h) k e = absurd (cc)
 
 -- too many ticks are no stamp's
 pub stamp_none : (m n : ℕ) → 100000000 ≤ n → stamp_of m n ≡ None
@@ -50,7 +50,7 @@ stamp_none m n l = go (dec_lt m (2 ^ 32)) (dec_lt n 100000000)
 -- what is read only of so many bytes
 only_at : {A : Type 0} (t : Bool) (x : Option A) (a : A) → cond t x None ≡ Some a → (t ≡ true) × (x ≡ Some a)
 only_at true x a e = (refl, e)
-only_at false x a e = let z : ◌≡◌ {A = ℕ} 0 1 = cc in absurd (omega arith)
+only_at false x a e = absurd (cc)
 
 pub frame_own : Own frame_coding
 frame_own = record {

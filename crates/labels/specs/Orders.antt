@@ -50,9 +50,9 @@ same_stamp a b h k i = record {
 }
 
 both_equal : (o p : Ordering) → ordering_then o p ≡ Equal → (o ≡ Equal) × (p ≡ Equal)
-both_equal Less p e = let z : ◌≡◌ {A = ℕ} 0 1 = cc in absurd (omega arith)
+both_equal Less p e = absurd (cc)
 both_equal Equal p e = (refl, e)
-both_equal Greater p e = let z : ◌≡◌ {A = ℕ} 0 1 = cc in absurd (omega arith)
+both_equal Greater p e = absurd (cc)
 
 turned_then : (o p : Ordering) → ordering_then (ordering_reverse o) (ordering_reverse p) ≡ ordering_reverse (ordering_then o p)
 turned_then Less p = refl

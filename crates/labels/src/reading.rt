@@ -17,10 +17,8 @@ pub fn read_label<L: Label>(input: &[u8], place: usize) -> Result<(L, usize), Fa
         return Err(Reader::Label.fault_at(place, Refusal::InputEnds));
     }
     let end = place + width;
-    let label = L::from_bytes(&input[place..end]).ok_or(Reader::Label.fault_at(
-        place,
-        Refusal::NoLabel,
-    ))?;
+    let no_label = Reader::Label.fault_at(place, Refusal::NoLabel);
+    let label = L::from_bytes(&input[place..end]).ok_or(no_label)?;
     Ok((label, end))
 }
 

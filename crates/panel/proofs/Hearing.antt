@@ -13,7 +13,7 @@ use Rattle.exchanges.specs.Exchange.{Exchange, Ask, plain, firm, round_after, af
 use Rattle.exchanges.specs.Asked.{due, short, Asked, PlainAsked, FirmAsked}
 use Rattle.panel.specs.Slots.{Slot}
 use Rattle.panel.specs.Panel.{column, firsts, after_asks}
-use Rattle.panel.specs.Steps.{Ready, Filled}
+use Rattle.panel.specs.Steps.{Filled}
 use Rattle.panel.proofs.Slips.{none≢some}
 use Rattle.panel.proofs.Phases.{round_firsts}
 
@@ -62,10 +62,6 @@ after_fills x (b ∷ l) k a = after_fills (after_ask x b) l k a
 pub fills_after : {I : Type 0} (x : Exchange I) (l : List (Ask I)) (y : Exchange I) (a : Ask I) → y ≡ after_asks x l → y.fills [] a ≡ x.fills l a
 fills_after x l y a e = ap (λ q. q.fills [] a) e ∙ (after_fills x l [] a ∙ ap (λ k. x.fills k a) (append-nil l))
 
-pub after_ready : {I : Type 0} (x : Exchange I) (l : List (Ask I)) (n w : ℕ) → Ready x n w → Ready (after_asks x l) n w
-after_ready x [] n w r = r
-after_ready x (b ∷ l) n w r = after_ready (after_ask x b) l n w (record { fit = r.fit; same = r.same; space = r.space })
-
 pub after_firm : {I : Type 0} (x : Exchange I) (l : List (Ask I)) → (after_asks x l).firm_rounds ≡ x.firm_rounds
 after_firm x [] = refl
 after_firm x (b ∷ l) = after_firm (after_ask x b) l
@@ -99,9 +95,6 @@ module _ {X : Type 0} (at area : ℕ) (blocks into : List X) (within : at + area
 
 -- the firm exchanges one after another
 module _ {L : Type 0} (x : Exchange (Slip L)) (n : ℕ) (slots : List (Slot L)) where
-  pub ready_at : (g w w' : ℕ) (y : Exchange (Slip L)) → y ≡ after_asks x (firsts n slots g) → w' ≡ w → Ready x n w → Ready y n w'
-  ready_at g w w' y e ew r = subst (λ z. Ready z n w') (sym e) (subst (λ v. Ready (after_asks x (firsts n slots g)) n v) (sym ew) (after_ready x (firsts n slots g) n w r))
-
   pub round_at : (g : ℕ) (y : Exchange (Slip L)) → y ≡ after_asks x (firsts n slots g) → x.round + g * x.firm_rounds ≤ last_round → y.round ≡ x.round + g * x.firm_rounds
   round_at g y e l = ap (λ z. z.round) e ∙ (after_round x (firsts n slots g) ∙ round_firsts n slots x.firm_rounds x.round g l)
 

@@ -12,5 +12,4 @@ pub mod Choosing
 pub mod Examples
 pub mod Told
 pub mod Loops
-pub mod Ending
 pub mod Tests

@@ -1,5 +1,5 @@
 -- The steps of a phase one after another.
-use Rattle.std.proofs.Common.{◌≡◌, ℕ, zero, suc, ◌+◌, ◌-◌, ◌*◌, ◌<◌, ◌≤◌, Bool, true, false, cond, ◌&&◌, eqb, leb, List, [], ◌∷◌, ◌++◌, map, length, get_or, take, drop, set, Some, None, Option, sym, refl, ap, ◌∙◌, subst, ⊎_elim, append_assoc, mul-le-mul_right, one-mul, zero-mul, arith}
+use Rattle.std.proofs.Common.{◌≡◌, ℕ, zero, suc, ◌+◌, ◌-◌, ◌*◌, ◌<◌, ◌≤◌, Bool, true, false, cond, ◌&&◌, eqb, leb, List, [], ◌∷◌, ◌++◌, map, length, get_or, take, drop, set, Some, None, Option, sym, refl, ap, ◌∙◌, ⊎_elim, append_assoc, mul-le-mul_right, one-mul, zero-mul, arith}
 use borrow.Rule.Slice.PartMut.{put_mid}
 use Rattle.std.proofs.lemmas.Nat.{mul-add-lt}
 use Rattle.std.proofs.lemmas.List.{get_or_append_left, get_or-map, get_or-take, get_or-drop, length-map, length-take-le}
@@ -14,7 +14,10 @@ use Rattle.panel.specs.Slots.{Slot, Comparison, same, is_slip, with_phase, label
 use Rattle.panel.specs.Phase.{Row, as_claim, as_pick, later, only, heard_enough, best_heard, enough, choice_of, choice}
 use Rattle.panel.specs.Votes.{block_row}
 use Rattle.panel.specs.Panel.{at, column, put, firsts, firm_row, new_pick, picked, pick_row, new_estimate, estimated, estimate_row, new_verdict, decided, asks, after_asks}
-use Rattle.panel.specs.Steps.{Ready, Filled}
+use Rattle.panel.specs.Steps.{Filled}
+use Rattle.exchanges.specs.declared.exchange.Exchange.{Ghosts}
+use Rattle.panel.specs.declared.run.Run.{Run}
+use Rattle.panel.specs.Runs.{GoesOn}
 use Rattle.panel.proofs.Slips.{slip_path, claim_from, only_from}
 use Rattle.panel.proofs.Counts.{count_same}
 use Rattle.panel.proofs.Rows.{best_from, best_same}
@@ -155,9 +158,10 @@ module _ {L : Type 0} (o : Comparison L) (n t f : ℕ) (x : Exchange (Slip L)) (
         ew ∙ (ap (λ s. after_ask z (plain (column n s 0))) f₂ ∙ (ap (λ u. after_ask u send_estimates) fz ∙ (sym (after_snoc x (firsts n slots f ++ (send_picks ∷ [])) send_estimates) ∙ ap (after_asks x) (append_assoc (firsts n slots f) (send_picks ∷ []) (send_estimates ∷ []))))),
       )
 
--- the exchange after a plain one that is not refused
-pub plain_ready : {I : Type 0} (y z : Exchange I) (a : List (Option I)) (n : ℕ) → z ≡ after_ask y (plain a) → Ready y n y.workspace → Ready z n z.workspace
-plain_ready y z a n e r = subst (λ u. Ready u n u.workspace) (sym e) (record { fit = r.fit; same = r.same; space = r.space })
-
+-- the round after a plain exchange that is not refused
 pub plain_round : {I : Type 0} (y z : Exchange I) (a : List (Option I)) → z ≡ after_ask y (plain a) → y.round + 1 ≤ last_round → z.round ≡ y.round + 1
 plain_round y z a e l = ap (λ u. u.round) e ∙ cond-true (leb (y.round + 1) last_round) (y.round + 1) y.round (le-leb (y.round + 1) last_round l)
+
+-- what goes on, and then goes on again, goes on
+pub on_and_on : {L E : Type 0} {x : Ghosts E (Slip L)} (a b c : Run L E x) → GoesOn a b → GoesOn b c → GoesOn a c
+on_and_on a b c h k = (k.0 ∙ h.0, k.1 ∙ h.1, k.2 ∙ h.2, k.3 ∙ h.3, k.4 ∙ h.4)

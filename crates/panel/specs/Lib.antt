@@ -4,6 +4,7 @@ pub mod Laws
 pub mod Votes
 pub mod Panel
 pub mod Steps
+pub mod Runs
 pub mod Settled
 pub mod Worked
 pub mod Modelled

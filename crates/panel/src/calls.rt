@@ -8,11 +8,13 @@ ghost use Rattle.panel.specs.Laws.{Laws};
 ghost use Rattle.panel.specs.Worked.{Worked};
 ghost use Rattle.panel.specs.Panel.{at, new, fit, propose, phase, verdict, sizes, refusal, step, Answers, AnswersWith, Unaltered, Exchanged, verdict_place};
 ghost use Rattle.panel.specs.Settled.{Promised};
-ghost use Rattle.panel.specs.Modelled.{state, SizedBy};
+ghost use Rattle.panel.specs.Modelled.{state, NextOf};
 
 use crate::held::Panel;
 use crate::memory::{put_slot, silence, slot_at};
-use crate::steps::{ESTIMATE, VERDICT, run_phase};
+use crate::phase::Phase;
+use crate::run::Run;
+use crate::steps::{ESTIMATE, VERDICT};
 use exchanges::exchange::Exchange;
 use exchanges::fitting::Size;
 use labels::order::Ordered;
@@ -124,16 +126,16 @@ impl<'a, L: Ordered> Panel<'a, L> {
             .count()
     }
 
-    // The panel's size, where the next phase may run with blocks of these lengths.
+    // The next phase, where it may run with blocks of these lengths.
     fn admit<E: Exchange<Slip<L>>>(
         &self,
         exchange: &E,
         heard: usize,
         picks: usize,
         work: usize,
-    ) -> Result<Size, Refusal>
+    ) -> Result<Phase, Refusal>
         ensures answer { Answers (refusal (state self.now) (phase (E.meaning exchange.now) (sizes heard picks work))) result }
-        ensures size { SizedBy self.now.size result }
+        ensures next { NextOf self.now.size self.now.phases result }
     {
         let size = self.size.ok_or(Refusal::NotFitted)?;
         let n = size.n();
@@ -152,13 +154,14 @@ impl<'a, L: Ordered> Panel<'a, L> {
         if rounds_lack(exchange.round(), exchange.firm_rounds(), self.phases) {
             return Err(Refusal::RoundLimit);
         }
-        Ok(size)
+        let number = self.phases + 1;
+        Ok(Phase { size, number })
     }
 
     // Runs the next phase. The blocks have room for what is heard, n * n slots, for what was heard of
     // the estimates and the earlier picks, 8 * n * n, and for the exchange's workspace. What they
     // hold there afterwards is free; past that they are left as they were.
-    // They stay three parameters: the contract says of each what of it is kept.
+    // Kept three parameters: the contract says of each what of it is left as it was.
     pub fn phase<E: Exchange<Slip<L>>>(
         &mut self,
         exchange: &mut E,
@@ -174,20 +177,18 @@ impl<'a, L: Ordered> Panel<'a, L> {
         ensures picks { Kept (8 * ((state self.old).boards * (state self.old).boards)) picks.old picks.new result }
         ensures work { Kept (E.meaning exchange.old).workspace work.old work.new result }
     {
-        let size = self.admit(exchange, heard.len(), picks.len(), work.len())?;
-        let n = size.n();
+        let phase = self.admit(exchange, heard.len(), picks.len(), work.len())?;
+        let n = phase.size.n();
         let space = exchange.workspace();
-        let phase = self.phases + 1;
-        run_phase(
-            self.slots,
-            size,
+        let mut run = Run {
             phase,
             exchange,
-            &mut heard[0..n * n],
-            &mut picks[0..8 * (n * n)],
-            &mut work[0..space],
-        );
-        self.phases = phase;
+            heard: &mut heard[0..n * n],
+            blocks: &mut picks[0..8 * (n * n)],
+            work: &mut work[0..space],
+        };
+        run.decide(self.slots);
+        self.phases = phase.number;
         Ok(())
     }
 }

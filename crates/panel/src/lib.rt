@@ -6,6 +6,8 @@ mod counting;
 mod heard;
 mod held;
 mod memory;
+mod phase;
+mod run;
 mod steps;
 
 pub use held::Panel;

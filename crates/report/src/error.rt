@@ -1,4 +1,8 @@
 // Why a script comes to nothing.
+ghost use Rattle.std.specs.Prelude.{◌≡◌};
+ghost use Rattle.report.specs.declared.error.ScriptError.TheVariants.{NoMemory, Unreadable, Refused};
+ghost use Rattle.report.specs.Texts.{text};
+
 use labels::fault::Fault;
 use labels::refusal::Refusal;
 use std::alloc::AllocError;
@@ -9,16 +13,18 @@ use std::fmt;
 #[derive(Clone, Copy, PartialEq, Eq, Debug)]
 pub enum ScriptError {
     NoMemory(AllocError),
-    Fault(Fault),
+    Unreadable(Fault),
     Refused(Refusal),
 }
 
 // A fault as everywhere, as in `fault 16 at 12 in label`; a refusal as in `refused 7`.
 impl fmt::Display for ScriptError {
+    ghost output = { text };
+
     fn fmt<W: fmt::Write>(&self, f: &mut fmt::Formatter<W>) -> fmt::Result {
         match self {
             ScriptError::NoMemory(error) => write!(f, "{error}"),
-            ScriptError::Fault(fault) => write!(f, "{fault}"),
+            ScriptError::Unreadable(fault) => write!(f, "{fault}"),
             ScriptError::Refused(refusal) => write!(f, "refused {refusal}"),
         }
     }
@@ -27,18 +33,24 @@ impl fmt::Display for ScriptError {
 impl Error for ScriptError {}
 
 impl From<AllocError> for ScriptError {
+    ghost from_gives = { λ error e. e ≡ NoMemory error };
+
     fn from(error: AllocError) -> Self {
         ScriptError::NoMemory(error)
     }
 }
 
 impl From<Fault> for ScriptError {
+    ghost from_gives = { λ fault e. e ≡ Unreadable fault };
+
     fn from(fault: Fault) -> Self {
-        ScriptError::Fault(fault)
+        ScriptError::Unreadable(fault)
     }
 }
 
 impl From<Refusal> for ScriptError {
+    ghost from_gives = { λ refusal e. e ≡ Refused refusal };
+
     fn from(refusal: Refusal) -> Self {
         ScriptError::Refused(refusal)
     }

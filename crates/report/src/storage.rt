@@ -10,13 +10,14 @@ pub const MOST_RECORDS: usize = 12_000;
 pub const MOST_SLIPS: usize = 10_500;
 
 // The slots of seven boards, what they hear from one another, and the trees of two bad boards.
-pub const MOST_BOARDS: usize = 7;
+// Kept a cast: a constant calls no function.
+pub const MOST_BOARDS: usize = exchanges::fitting::MOST_BOARDS as usize;
 
-pub const SLOTS: usize = 70;
+pub const SLOTS: usize = 10 * MOST_BOARDS;
 
-pub const HEARD: usize = 49;
+pub const HEARD: usize = MOST_BOARDS * MOST_BOARDS;
 
-pub const PICKS: usize = 392;
+pub const PICKS: usize = 8 * HEARD;
 
 pub const WORKSPACE: usize = 1_813;
 

@@ -1,5 +1,6 @@
 -- Bytes that read as a script are the bytes of that script.
-use Rattle.std.proofs.Common.{◌≡◌, ℕ, zero, suc, ◌+◌, ◌*◌, ◌/◌, ◌%◌, ◌^◌, ◌<◌, ◌≤◌, Bool, true, false, not, eqb, ltb, leb, List, [], ◌∷◌, ◌++◌, length, take, drop, is_some, Some, None, Ok, Option, sym, refl, ap, ◌∙◌, subst, append_assoc, arith, take-append-drop, ltb-false, eqb-true, leb-true}
+use Rattle.std.proofs.lemmas.Grind.{common_steps}
+use Rattle.std.proofs.Common.{◌≡◌, ℕ, zero, suc, ◌+◌, ◌*◌, ◌/◌, ◌%◌, ◌^◌, ◌≤◌, Bool, true, false, not, eqb, ltb, leb, List, [], ◌∷◌, ◌++◌, length, take, drop, is_some, Some, None, Ok, Option, sym, refl, ap, ◌∙◌, subst, append_assoc, arith, take-append-drop, ltb-false, eqb-true, leb-true}
 use lib.Count.{ones}
 use Rattle.std.proofs.lemmas.List.{drop-drop, drop_all}
 use Rattle.script.specs.declared.model.Header.{Header}
@@ -21,7 +22,7 @@ abbrev pub Back : {X : Type 0} → (List ℕ → ℕ → Read X) → (X → List
 Back {X} f w = (b : List ℕ) (p : ℕ) (x : X) (q : ℕ) → Bytes b → f b p ≡ Ok (x, q) → drop p b ≡ w x ++ drop q b
 
 first_back : (d : Reader) (b : List ℕ) (p x q : ℕ) (l : List ℕ) → drop p b ≡ l → first d p l ≡ Ok (x, q) → drop p b ≡ x ∷ drop q b
-first_back d b p x q [] e h = let z : ◌≡◌ {A = ℕ} 0 1 = cc in absurd (omega arith)
+first_back d b p x q [] e h = absurd (cc)
 first_back d b p x q (y ∷ l) e h =
     let r : drop (p + 1) b ≡ l = past_one b p y l e in
     let o = ok_same y x (p + 1) q h in
@@ -33,8 +34,8 @@ pub byte_back : (d : Reader) → Back (byte d) (λ x. x ∷ [])
 byte_back d b p x q k h = first_back d b p x q (drop p b) refl h
 
 two_back : (d : Reader) (b : List ℕ) (p x q : ℕ) (l : List ℕ) → Bytes l → drop p b ≡ l → first_two d p l ≡ Ok (x, q) → drop p b ≡ pair_bytes x ++ drop q b
-two_back d b p x q [] k e h = let z : ◌≡◌ {A = ℕ} 0 1 = cc in absurd (omega arith)
-two_back d b p x q (y ∷ []) k e h = let z : ◌≡◌ {A = ℕ} 0 1 = cc in absurd (omega arith)
+two_back d b p x q [] k e h = absurd (cc)
+two_back d b p x q (y ∷ []) k e h = absurd (cc)
 two_back d b p x q (y ∷ (z ∷ l)) k e h =
     let r : drop (p + 2) b ≡ l = past b p (y ∷ (z ∷ [])) l e in
     let o = ok_same (y * 256 + z) x (p + 2) q h in
@@ -58,7 +59,7 @@ many_back f w g (suc n) b p xs q k h =
     g b p x r k e ∙ ap (λ l. w x ++ l) (many_back f w g n b r ys s k e₁) ∙ sym (append_assoc (w x) (joined w ys) (drop s b)) ∙ ap (λ z. joined w (x ∷ ys) ++ drop z b) o.1 ∙ ap (λ zs. joined w zs ++ drop q b) o.0))
 
 pub read_as_back : {L : Type 0} (C : Coding L) (p : ℕ) (o : Option L) (x : L) (q : ℕ) → read_as C p o ≡ Ok (x, q) → (o ≡ Some x) × (p + C.width ≡ q)
-read_as_back C p None x q h = let z : ◌≡◌ {A = ℕ} 0 1 = cc in absurd (omega arith)
+read_as_back C p None x q h = absurd (cc)
 read_as_back C p (Some l) x q h = let o = ok_same l x (p + C.width) q h in (ap Some o.0, o.1)
 
 module _ {L : Type 0} (C : Coding L) (own : Own C) where
@@ -87,21 +88,9 @@ field_back true ok d b p o q k h =
     let s = ok_same (Some v) o r q i.1 in
     (byte_back InScript b p v r k e ∙ ap (λ z. v ∷ drop z b) s.1 ∙ ap (λ z. listed z ++ drop q b) s.0, ap is_some (sym s.0)))
 
-stands_bit : (o : Option ℕ) (v : ℕ) → v < 2 → is_some o ≡ eqb v 1 → stands o ≡ v
-stands_bit None zero h e = refl
-stands_bit None (suc zero) h e = let z : ◌≡◌ {A = ℕ} 0 1 = cc in absurd (omega arith)
-stands_bit None (suc (suc v)) h e = absurd (omega arith)
-stands_bit (Some x) zero h e = let z : ◌≡◌ {A = ℕ} 0 1 = cc in absurd (omega arith)
-stands_bit (Some x) (suc zero) h e = refl
-stands_bit (Some x) (suc (suc v)) h e = absurd (omega arith)
-
 -- three bits make the map
 map_back : (m : ℕ) (t d f : Option ℕ) → m ≤ 7 → is_some t ≡ bit m 0 → is_some d ≡ bit m 1 → is_some f ≡ bit m 2 → stands t + 2 * stands d + 4 * stands f ≡ m
-map_back m t d f h a b c =
-    let t₁ : stands t ≡ (m / 1) % 2 = stands_bit t _ (omega arith) a in
-    let d₁ : stands d ≡ (m / 2) % 2 = stands_bit d _ (omega arith) b in
-    let f₁ : stands f ≡ (m / 4) % 2 = stands_bit f _ (omega arith) c in
-    omega arith
+map_back m t d f h a b c = grind (arith, common_steps)
 
 -- what was read of the fields after the header map
 pub record FieldsBack (n m : ℕ) (b : List ℕ) (p : ℕ) (h : Header) (q : ℕ) : Type 0 where

@@ -1,7 +1,7 @@
 -- The first pass over the records as a loop.
-use Rattle.std.proofs.Common.{◌≡◌, ℕ, suc, ◌+◌, ◌-◌, ◌<◌, ◌≤◌, List, ◌∷◌, ◌++◌, length, Ok, Err, Result, sym, refl, ap, ◌∙◌, add-zero, arith, lt-ltb}
+use Rattle.std.proofs.lemmas.Grind.{common_steps}
+use Rattle.std.proofs.Common.{◌≡◌, ℕ, suc, ◌+◌, ◌-◌, ◌<◌, ◌≤◌, List, ◌∷◌, length, Ok, Err, Result, sym, refl, ap, ◌∙◌, add-zero, arith, lt-ltb}
 use lib.Count.{ones}
-use Rattle.std.proofs.lemmas.List.{length-append}
 use Rattle.labels.specs.Faults.{Numbered}
 use Rattle.script.specs.declared.model.Record.{Record}
 use Rattle.script.specs.declared.records.Turn.{Turn}
@@ -19,18 +19,15 @@ added c s (Ok x) = Ok (c + length x.0, s + length (all_slips x.0))
 added c s (Err e) = Err e
 
 one_added : {L : Type 0} (c s : ℕ) (e : Entry L) (m : Read (List (Entry L))) → added c s (then m (λ es r. Ok (e ∷ es, r))) ≡ added (c + 1) (s + length e.slips) m
-one_added c s e (Ok x) =
-    let a : c + suc (length x.0) ≡ c + 1 + length x.0 = omega arith in
-    let d : s + length (e.slips ++ all_slips x.0) ≡ s + length e.slips + length (all_slips x.0) = simp length-append (omega arith) in
-    cc
+one_added c s e (Ok x) = grind (arith, common_steps)
 one_added c s e (Err g) = refl
 
 noted_ok : {L : Type 0} {G : Type 0} (m : Read (Entry L)) (r : Record) (q : ℕ) → Ok (r, q) ≡ noted m → ((e : Entry L) → m ≡ Ok (e, q) → e.note ≡ r → G) → G
 noted_ok (Ok x) r q h k = let o = ok_same r x.0.note q x.1 h in k x.0 (ap (λ z. Ok (x.0, z)) (sym o.1)) (sym o.0)
-noted_ok (Err g) r q h k = let z : ◌≡◌ {A = ℕ} 0 1 = cc in absurd (omega arith)
+noted_ok (Err g) r q h k = absurd (cc)
 
 noted_err : {L : Type 0} (m : Read (Entry L)) (g : Numbered) → Err g ≡ noted m → m ≡ Err g
-noted_err (Ok x) g h = let z : ◌≡◌ {A = ℕ} 0 1 = cc in absurd (omega arith)
+noted_err (Ok x) g h = absurd (cc)
 noted_err (Err f) g h = cc
 
 -- what the loop keeps

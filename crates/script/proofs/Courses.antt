@@ -1,6 +1,8 @@
 -- Lists of calls on a panel, one after another.
-use Rattle.std.proofs.Common.{◌≡◌, ℕ, zero, suc, ◌+◌, ◌-◌, ◌<◌, ◌≤◌, Bool, true, false, cond, T, ltb, List, [], ◌∷◌, ◌++◌, map, length, get_or, take, drop, set, is_some, IsErrAnd, Some, None, Ok, Err, Option, Result, sym, refl, ap, ◌∙◌, subst, append_assoc, append-nil, arith, ltb→lt}
+use Rattle.std.proofs.lemmas.Grind.{common_steps}
+use Rattle.std.proofs.Common.{◌≡◌, ℕ, zero, suc, ◌+◌, ◌-◌, ◌<◌, ◌≤◌, Bool, true, false, cond, ltb, List, [], ◌∷◌, ◌++◌, map, length, get_or, take, drop, set, is_some, IsErrAnd, Some, None, Ok, Err, Option, Result, sym, refl, ap, ◌∙◌, subst, append_assoc, append-nil, arith}
 use Rattle.std.proofs.lemmas.List.{take_more_set, take_more, take-append-drop, length-take-le}
+use Rattle.std.proofs.lemmas.Bool.{cond-false, le-ltb}
 use Rattle.std.proofs.lemmas.List.FromFn.{length-map-range_with_len, map-range_with_len_more}
 use Rattle.std.specs.List.{range_with_len}
 use Rattle.std.specs.Option.{option_or}
@@ -9,7 +11,7 @@ use Rattle.labels.specs.declared.refusal.Refusal.{Refusal}
 use Rattle.labels.specs.declared.slip.Slip.{Slip}
 use Rattle.exchanges.specs.Exchange.{Exchange}
 use Rattle.exchanges.specs.declared.tree.Tree.{Tree}
-use Rattle.exchanges.specs.Trees.{tree_meaning, tree_exchange}
+use Rattle.exchanges.specs.Trees.{tree_exchange}
 use Rattle.labels.specs.Slip.{same_slip}
 use Rattle.panel.specs.Slots.{Slot, Comparison, label_of}
 use Rattle.panel.specs.Panel.{at, verdict_place, State, Event, after, Lengths, new, change, fit, propose, phase, refusal, step, run, sizes, asks, after_asks}
@@ -23,7 +25,7 @@ use Rattle.script.specs.Runs.{first_refusal, Ran, verdicts, script_trees, borne,
 
 pub both_none : (a b : Option ℕ) → option_or a b ≡ None → (a ≡ None) × (b ≡ None)
 both_none None b e = (refl, e)
-both_none (Some x) b e = let z : ◌≡◌ {A = ℕ} 0 1 = cc in absurd (omega arith)
+both_none (Some x) b e = absurd (cc)
 
 pub first_some : (a b c : Option ℕ) (r : ℕ) → option_or a b ≡ Some r → (b ≡ Some r → c ≡ Some r) → option_or a c ≡ Some r
 first_some None b c r e f = f e
@@ -46,7 +48,7 @@ module _ {L : Type 0} (o : Comparison L) where
       ap (λ a. option_or a (first_refusal o (step o s x) (h ++ k))) b.0 ∙ refused_append (step o s x) h k b.1
 
   pub refused_first : (s : State L) (h k : List (Event L)) (r : ℕ) → first_refusal o s h ≡ Some r → first_refusal o s (h ++ k) ≡ Some r
-  refused_first s [] k r e = let z : ◌≡◌ {A = ℕ} 0 1 = cc in absurd (omega arith)
+  refused_first s [] k r e = absurd (cc)
   refused_first s (x ∷ h) k r e = first_some (refusal s x) (first_refusal o (step o s x) h) (first_refusal o (step o s x) (h ++ k)) r e (refused_first (step o s x) h k r)
 
   -- the calls h were all accepted, and made s' of s
@@ -118,7 +120,7 @@ module _ {L : Type 0} (o : Comparison L) (h p w h' p' w' : ℕ) (eh : h' ≡ h) 
   same_call y e = λ k. phase (e k) (sizes (eh k) (ep k) (ew k))
 
   next_calls : (phases o (sizes h p w) s x (i + 1)).calls ≡ (phases o (sizes h p w) s x i).calls ++ (phase (phases o (sizes h p w) s x i).exchange (sizes h p w) ∷ [])
-  next_calls = let on : i + 1 ≡ suc i = omega arith in ap (λ k. (phases o (sizes h p w) s x k).calls) on
+  next_calls = grind (arith, common_steps)
 
   pub phase_more : (q : State L) (y : Exchange (Slip L)) (q'' : State L) (y'' : Exchange (Slip L)) → Stands q y → refusal q (phase y (sizes h' p' w')) ≡ None → q'' ≡ step o q (phase y (sizes h' p' w')) → y'' ≡ after_asks y (asks o q.boards q.faults (q.phases + 1) y q.slots) → Going o s (phases o (sizes h p w) s x (i + 1)).calls q'' × (y'' ≡ (phases o (sizes h p w) s x (i + 1)).exchange)
   phase_more q y q'' y'' g a n e =
@@ -159,14 +161,11 @@ module _ {L : Type 0} (o : Comparison L) where
       phases_boards l (run o (new m) (opening h ps)) x k ∙ (proposing_boards 0 (take h.boards ps) (step o (new m) f) ∙ ap (λ a. (cond (is_some a) (new m) (change o (new m) f)).boards) b.0)
 
   long : (n m : ℕ) (a b : Option ℕ) → n ≤ m → cond (ltb m n) a b ≡ b
-  long n m a b le = by (ltb m n) refl where
-    by : (t : Bool) → ltb m n ≡ t → cond t a b ≡ b
-    by false e = refl
-    by true e = absurd (omega (arith, ltb→lt m n (subst T (sym e) tt)))
+  long n m a b le = cond-false (ltb m n) a b (le-ltb m n le)
 
   ran_err : (m : List (Slot L)) (h : List (Event L)) (n k : ℕ) (vs : List (Option L)) (r : Result ℕ Refusal) (e : Refusal) → IsErrAnd r (λ y. y ≡ e) → n ≤ length vs → first_refusal o (new m) h ≡ Some (row e) → Ran o m h n k vs vs r
   ran_err m h n k vs (Ok u) e b le f = absurd b
-  ran_err m h n k vs (Err y) e b le f = (long n (length vs) (Some 10) (first_refusal o (new m) h) le ∙ (f ∙ ap (λ z. Some (row z)) (sym b)), refl)
+  ran_err m h n k vs (Err y) e b le f = grind (arith, common_steps)
 
   module _ (m : List (Slot L)) (h : Header) (ps : List L) (l : Lengths) (vs : List (Option L)) (le : h.boards ≤ length vs) (s : State L) (made : s ≡ new m) where
     pub not_opened : (x : Exchange (Slip L)) (k : ℕ) (r : Result ℕ Refusal) (e : Refusal) → IsErrAnd r (λ y. y ≡ e) → first_refusal o s (opening h ps) ≡ Some (row e) →
@@ -201,7 +200,4 @@ module _ {L : Type 0} (o : Comparison L) where
           omega (arith, there)
 
   pub same_trees : (h : Header) (count : ℕ) (m : Lists L) (x : Tree (ScriptBackplane (Slip L))) (b : ScriptBackplane (Slip L)) (bad t : ℕ) → x.plane ≡ b → script_plane b ≡ script h.boards bad (take count m.records) m.slips 0 → bad ≡ bad_map h → x.faults ≡ t → t ≡ borne h → tree_exchange (same_slip o) script_plane x ≡ script_trees o h count m
-  same_trees h count m x b bad t ex eb ed ef et =
-      let plane = ap script_plane ex ∙ (eb ∙ ap (λ d. script h.boards d (take count m.records) m.slips 0) ed) in
-      let faults = ef ∙ et in
-      λ i. tree_meaning (same_slip o) (faults i) (plane i)
+  same_trees h count m x b bad t ex eb ed ef et = grind (arith, common_steps)

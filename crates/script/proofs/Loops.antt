@@ -1,5 +1,6 @@
 -- Readers of rows as loops: one value more, a fault, and the end.
-use Rattle.std.proofs.Common.{◌≡◌, ℕ, suc, ◌+◌, ◌-◌, ◌<◌, List, [], ◌∷◌, ◌++◌, length, take, set, Ok, Err, Result, sym, refl, ap, ◌∙◌, subst, append_assoc, arith}
+use Rattle.std.proofs.lemmas.Grind.{common_steps}
+use Rattle.std.proofs.Common.{◌≡◌, ℕ, suc, ◌+◌, ◌-◌, ◌<◌, List, [], ◌∷◌, ◌++◌, length, take, set, Ok, Err, Result, sym, refl, ap, ◌∙◌, append_assoc, arith}
 use Rattle.std.proofs.lemmas.List.{take_more_set}
 use Rattle.labels.specs.Faults.{Numbered}
 use Rattle.script.specs.Readers.{Read, then}
@@ -38,6 +39,4 @@ module _ {X : Type 0} (f : List ℕ → ℕ → Read X) (b : List ℕ) (n i p : 
   filled_more x q list m long e h = h ∙ onto_more x q (take i list) e ∙ ap (λ l. onto l (many (n - (i + 1)) f b q)) (sym (take_more_set list i x (omega arith)))
 
   pub filled_fault : (g : Numbered) (list now : List X) (m : Read (List X)) (r : Result ℕ Numbered) → f b p ≡ Err g → m ≡ onto (take i list) (many (n - i) f b p) → r ≡ Err g → Filled m r now
-  filled_fault g list now m r e h u =
-      let none : many (n - i) f b p ≡ Err g = rw (left_more, e) refl in
-      subst (λ z. Filled z r now) (sym (h ∙ ap (onto (take i list)) none)) u
+  filled_fault g list now m r e h u = grind (arith, common_steps)

@@ -1,59 +1,24 @@
 -- How far a reader goes: past its field, and not past the end.
-use Rattle.std.proofs.Common.{◌≡◌, ℕ, zero, suc, ◌+◌, ◌*◌, ◌^◌, ◌≤◌, ltb, leb, List, [], ◌∷◌, length, drop, Ok, sym, refl, ap, ◌∙◌, subst, arith, le-ltb, le-leb, leb-true}
+use Rattle.std.proofs.lemmas.Grind.{common_steps}
+use Rattle.std.proofs.Common.{◌≡◌, ℕ, zero, suc, ◌+◌, ◌≤◌, ltb, leb, List, [], ◌∷◌, length, Ok, sym, refl, ap, ◌∙◌, subst, arith, le-ltb, le-leb}
 use lib.Count.{ones}
-use Rattle.std.proofs.lemmas.List.{length-drop}
-use Rattle.labels.specs.declared.fault.Reader.{Reader}
-use Rattle.labels.specs.declared.fault.Reader.TheVariants.{Record as InRecord}
-use Rattle.labels.specs.Coding.{Coding, Own, room, read_at}
-use Rattle.script.specs.Entries.{Entry, slip, later, maps, fixed, entry, entries}
+use Rattle.labels.specs.Coding.{Coding, Own, read_at}
+use Rattle.script.specs.Entries.{Entry, slip, fixed, entry, entries}
 use Rattle.script.specs.Header.{header, bad_map}
 use Rattle.script.specs.Script.{Script, decode, most}
 use Rattle.script.specs.Readers.{Read}
-use Rattle.script.specs.Fields.{first, byte, first_two, pair, many}
-use Rattle.script.proofs.Back.{read_as_back}
-use Rattle.script.proofs.Follow.{then_inv, bind_inv, cond_inv, ok_same, require_inv}
+use Rattle.script.specs.Fields.{many}
+use Rattle.script.proofs.Follow.{then_inv, cond_inv, ok_same, require_inv}
 
 abbrev pub Moves : {X : Type 0} → (List ℕ → ℕ → Read X) → ℕ → Type 0
 Moves {X} f k = (b : List ℕ) (p : ℕ) (x : X) (q : ℕ) → f b p ≡ Ok (x, q) → (p + k ≤ q) × (q ≤ length b)
 
-first_moves : (d : Reader) (b : List ℕ) (p x q : ℕ) (l : List ℕ) → drop p b ≡ l → first d p l ≡ Ok (x, q) → (p + 1 ≤ q) × (q ≤ length b)
-first_moves d b p x q [] e h = let z : ◌≡◌ {A = ℕ} 0 1 = cc in absurd (omega arith)
-first_moves d b p x q (y ∷ l) e h =
-    let u : p + 1 ≡ q = (ok_same y x (p + 1) q h).1 in
-    let n : length (drop p b) ≡ suc (length l) = ap length e in
-    (omega arith, omega (arith, length-drop p b))
-
-pub byte_moves : (d : Reader) → Moves (byte d) 1
-byte_moves d b p x q h = first_moves d b p x q (drop p b) refl h
-
-two_moves : (d : Reader) (b : List ℕ) (p x q : ℕ) (l : List ℕ) → drop p b ≡ l → first_two d p l ≡ Ok (x, q) → (p + 2 ≤ q) × (q ≤ length b)
-two_moves d b p x q [] e h = let z : ◌≡◌ {A = ℕ} 0 1 = cc in absurd (omega arith)
-two_moves d b p x q (y ∷ []) e h = let z : ◌≡◌ {A = ℕ} 0 1 = cc in absurd (omega arith)
-two_moves d b p x q (y ∷ (z ∷ l)) e h =
-    let u : p + 2 ≡ q = (ok_same (y * 256 + z) x (p + 2) q h).1 in
-    let n : length (drop p b) ≡ suc (suc (length l)) = ap length e in
-    (omega arith, omega (arith, length-drop p b))
-
-pub pair_moves : (d : Reader) → Moves (pair d) 2
-pair_moves d b p x q h = two_moves d b p x q (drop p b) refl h
-
 module _ {L : Type 0} (C : Coding L) (own : Own C) where
   pub label_moves : Moves (read_at C) 1
-  label_moves b p x q h =
-      let t = require_inv (room C b p) _ _ _ h in
-      let n = leb-true _ _ t.0 in
-      let u = (read_as_back C p _ x q t.1).1 in
-      let some = own.some in
-      (omega arith, omega arith)
+  label_moves b p x q h = grind (arith, common_steps)
 
   pub slip_moves : Moves (slip C) 1
-  slip_moves b p x q h =
-      then_inv (byte InRecord b p) _ _ h (λ f r e h₁.
-      then_inv (read_at C b r) _ _ h₁ (λ l s e₁ h₂.
-      let u = (ok_same (record { phase = f; label = l }) x s q h₂).1 in
-      let a = byte_moves InRecord b p f r e in
-      let c = label_moves b r l s e₁ in
-      (omega arith, omega arith)))
+  slip_moves b p x q h = grind (arith, common_steps)
 
 pub many_moves : {X : Type 0} (f : List ℕ → ℕ → Read X) → Moves f 1 → (k : ℕ) (b : List ℕ) (p : ℕ) (xs : List X) (q : ℕ) → many k f b p ≡ Ok (xs, q) → (p + k ≤ q) × (p ≤ length b → q ≤ length b) × (length xs ≡ k)
 many_moves f g zero b p xs q h =
@@ -70,21 +35,7 @@ many_moves f g (suc k) b p xs q h =
     (omega arith, (λ w. let v : s ≤ length b = c.1 a.1 in omega arith), ap length (sym o.0) ∙ ap suc c.2)))
 
 pub fixed_moves : (n bad a c : ℕ) → Moves (fixed n bad a c) 5
-fixed_moves n bad a c b p r q h =
-    then_inv (pair InRecord b p) _ _ h (λ v p₁ e₁ h₁.
-    then_inv (byte InRecord b p₁) _ _ h₁ (λ s p₂ e₂ h₂.
-    let t₁ = require_inv (later a c v s) _ _ _ h₂ in
-    let t₂ = require_inv (ltb s n) _ _ _ t₁.1 in
-    then_inv (byte InRecord b p₂) _ _ t₂.1 (λ l p₃ e₃ h₃.
-    let t₃ = require_inv (ltb l (2 ^ n)) _ _ _ h₃ in
-    then_inv (byte InRecord b p₃) _ _ t₃.1 (λ f p₄ e₄ h₄.
-    bind_inv (maps n bad s l f p₃) _ _ h₄ (λ _ e₅ h₅.
-    let u = (ok_same (record { round = v; sender = s; lost = l; forged = f }) r p₄ q h₅).1 in
-    let a₁ = pair_moves InRecord b p v p₁ e₁ in
-    let a₂ = byte_moves InRecord b p₁ s p₂ e₂ in
-    let a₃ = byte_moves InRecord b p₂ l p₃ e₃ in
-    let a₄ = byte_moves InRecord b p₃ f p₄ e₄ in
-    (omega arith, omega arith))))))
+fixed_moves n bad a c b p r q h = grind (arith, common_steps)
 
 -- a record's slips are as many as its map names
 pub entry_moves : {L : Type 0} (C : Coding L) (own : Own C) (n bad a c : ℕ) (b : List ℕ) (p : ℕ) (x : Entry L) (q : ℕ) → entry C n bad a c b p ≡ Ok (x, q) → (p + 5 + ones x.note.forged ≤ q) × (q ≤ length b) × (length x.slips ≡ ones x.note.forged)

@@ -1,9 +1,10 @@
 -- The backplane's meaning obeys the records as they stand. Assumes nothing.
+use Rattle.std.proofs.lemmas.Grind.{common_steps}
 use Rattle.std.proofs.Common.{◌≡◌, ℕ, zero, suc, ◌+◌, ◌/◌, ◌%◌, ◌^◌, ◌<◌, Bool, true, false, cond, not, ◌&&◌, ◌||◌, eqb, ltb, ◌⊎◌, List, [], ◌∷◌, ◌++◌, Some, None, Option, sym, refl, ap, ◌∙◌, subst, ap₂, inl, inr, ⊎_elim, add-zero, add_assoc, mod-lt, zero-add, one-add, arith, lit<, pow_pos}
 use lib.Arith.{lt-one}
 use lib.Count.{ones, ones_cat}
 use lib.Pow.{mod-pow-add}
-use Rattle.std.proofs.lemmas.Bool.{cond-true, cond-false, lt-ltb, and_from, and_parts, eq-eqb, eqb-true, cases_Bool, both_ways, or_left, or_right, not_from_false}
+use Rattle.std.proofs.lemmas.Bool.{cond-true, cond-false, and_from, and_parts, eqb-true, cases_Bool, both_ways, or_left, or_right, not_from_false}
 use Rattle.std.proofs.lemmas.Bool.Decides.{Decides-below_and}
 use Rattle.std.specs.List.{slice_get}
 use Rattle.exchanges.specs.Boards.{bit, count}
@@ -31,11 +32,10 @@ ones_count m (suc d) =
 
 module _ (r s : ℕ) where
   for : (c : Record) → c.round ≡ r → c.sender ≡ s → is_for c r s ≡ true
-  for c e f = and_from (eqb c.round r) (eqb c.sender s) (eq-eqb c.round r e) (eq-eqb c.sender s f)
+  for c e f = grind (arith, common_steps)
 
   not_for : (c : Record) → (c.round ≡ r → c.sender ≡ s → ⊥) → is_for c r s ≡ false
-  not_for c h =
-      ⊎_elim (λ e. let p = and_parts (eqb c.round r) (eqb c.sender s) e in absurd (h (eqb-true c.round r p.0) (eqb-true c.sender s p.1))) (λ e. e) (cases_Bool (is_for c r s))
+  not_for c h = grind (arith, common_steps)
 
   unsaid_rule : (l : List Record) (k : ℕ) → Unsaid l r s → first_rule l k r s ≡ None
   unsaid_rule [] k h = refl
@@ -93,8 +93,7 @@ module _ (records : List Record) (bad : ℕ) (n r : ℕ) where
 module _ {I : Type 0} (n bad : ℕ) (records : List Record) (slips : List I) (s d : ℕ) (x : Option I) (sn : s < n) (dn : d < n) (r : ℕ) where
   -- what is heard under a rule of the sender
   under : (o : Option Rule) → first_rule records 0 r s ≡ o → cond (ltb s n && ltb d n) (obeyed (first_rule records 0 r s) slips bad s d x) None ≡ obeyed o slips bad s d x
-  under o e =
-      cond-true (ltb s n && ltb d n) _ None (and_from _ _ (lt-ltb s n sn) (lt-ltb d n dn)) ∙ ap (λ p. obeyed p slips bad s d x) e
+  under o e = grind (arith, common_steps)
 
 script_obeys : {I : Type 0} (n bad : ℕ) (records : List Record) (slips : List I) (round : ℕ) → Obeys n bad records slips (script n bad records slips round)
 script_obeys n bad records slips round = record {

@@ -1,6 +1,6 @@
 -- What write answers, once the bytes are formed.
+use Rattle.std.proofs.lemmas.Grind.{common_steps}
 use Rattle.std.proofs.Common.{◌≡◌, ℕ, ◌≤◌, List, [], length, take, Ok, Err, Result, sym, ap, ◌∙◌, arith}
-use Rattle.std.proofs.lemmas.List.{length-take}
 use Rattle.labels.specs.Coding.{Coding, Own}
 use Rattle.labels.specs.Faults.{Numbered}
 use Rattle.script.specs.declared.model.Header.{Header}
@@ -13,11 +13,7 @@ use Rattle.script.proofs.Surveys.{found, same_fault}
 
 -- what was put from the start of a buffer
 pub put_front : (bytes new : List ℕ) (q : ℕ) → Puts bytes [] 0 (Ok q) new → (q ≡ length bytes) × (take q new ≡ bytes) × (q ≤ length new)
-put_front bytes new q h =
-    let u = h.0 in
-    let v : length (take q new) ≡ length bytes = ap length h.1 in
-    let w = length-take q new in
-    (omega arith, h.1, omega arith)
+put_front bytes new q h = grind (arith, common_steps)
 
 module _ {L : Type 0} (C : Coding L) (own : Own C) (h : Header) (count : ℕ) (m : Lists L) (size : ℕ) where
   -- what write answers after what read does
@@ -31,7 +27,7 @@ module _ {L : Type 0} (C : Coding L) (own : Own C) (h : Header) (count : ℕ) (m
   -- the bytes read as a script
   pub writes_read : (s : Script L) → decode C (formed C h count m) ≡ Ok s → (r : Result (Unit {0}) Numbered) → r ≡ last_checks count (length m.records) (length (formed C h count m)) size → bind r (λ _. Ok (length (formed C h count m))) ≡ writes C h count m size
   unfolding finish
-  writes_read s d r e = ap (λ z. bind z (λ _. Ok (length (formed C h count m)))) e ∙ finished (Ok s) d
+  writes_read s d r e = grind (arith, common_steps)
 
   module _ (b : List ℕ) (is : b ≡ formed C h count m) where
     pub writes_fault : (g : Numbered) → Err g ≡ surveyed C b → Err g ≡ writes C h count m size

@@ -116,7 +116,7 @@ module _ {L : Type 0} {C : Coding L} (own : Own C) {n bad : ℕ} {b : List ℕ} 
       with_fixed (Err f) h z = absurd z
 
   pub no_fault : {g : Numbered} → Err g ≡ fixed n bad round sender b p → ⊥
-  no_fault h = let i = step.head_is in let z : ◌≡◌ {A = ℕ} 0 1 = cc (h, i) in omega arith
+  no_fault h = let i = step.head_is in cc (h, i)
 
   module _ {r : Record} {q w : ℕ} (h : Ok (r, q) ≡ fixed n bad round sender b p) (v : w ≡ ones r.forged) where
     note_is : r ≡ step.e.note
@@ -141,7 +141,7 @@ module _ {L : Type 0} {C : Coding L} (own : Own C) {n bad : ℕ} {b : List ℕ} 
     read_part = ap (λ z. many z (slip C) b q) (own_part ∙ ones_is) ∙ ap (λ z. many (ones step.e.note.forged) (slip C) b z) (ok_same r step.e.note q step.mid (h ∙ step.head_is)).1 ∙ step.slips_is
 
     pub no_slip_fault : (g : Numbered) (part : List (Slip L)) → Filled (many (length (take (done + w - done) (drop done new_slips))) (slip C) b q) (Err g) part → ⊥
-    no_slip_fault g part f = let i = (subst (λ z. Filled z (Err g) part) read_part f).0 in let z : ◌≡◌ {A = ℕ} 0 1 = cc (i) in omega arith
+    no_slip_fault g part f = let i = (subst (λ z. Filled z (Err g) part) read_part f).0 in cc (i)
 
     module _ (end : ℕ) (part : List (Slip L)) (f : Filled (many (length (take (done + w - done) (drop done new_slips))) (slip C) b q) (Ok end) part) where
       filled : (end ≡ step.end) × (part ≡ step.e.slips)

@@ -1,7 +1,7 @@
 -- The two passes of read together.
-use Rattle.std.proofs.Common.{◌≡◌, ℕ, ◌≤◌, Bool, true, false, cond, leb, List, ◌++◌, length, take, drop, Ok, Err, Result, sym, refl, ap, ◌∙◌, subst, arith, le-leb, leb-true}
-use Rattle.std.proofs.lemmas.List.{length-take-le}
-use Rattle.std.proofs.lemmas.Bool.{and_parts, and_from}
+use Rattle.std.proofs.lemmas.Grind.{common_steps}
+use Rattle.std.proofs.Common.{◌≡◌, ℕ, ◌≤◌, Bool, true, false, cond, leb, List, ◌++◌, length, take, drop, Ok, Err, Result, sym, refl, ap, ◌∙◌, subst, arith, le-leb}
+use Rattle.std.proofs.lemmas.Bool.{and_from}
 use Rattle.labels.specs.Faults.{Numbered, require}
 use Rattle.script.specs.declared.model.Header.{Header}
 use Rattle.script.specs.declared.model.Record.{Record}
@@ -34,11 +34,11 @@ pub record Found {L : Type 0} (C : Coding L) (b : List ℕ) (v : Survey) : Type 
 module _ {L : Type 0} (C : Coding L) (own : Own C) (b : List ℕ) where
   of_entries : (h : Header) (p q : ℕ) (m : Read (List (Entry L))) (v : Survey) {G : Type 0} → bind (counted m) (λ c. Ok (record { head = h; start = p; rest = q; records = c.0; slips = c.1 })) ≡ Ok v → ((es : List (Entry L)) (z : ℕ) → m ≡ Ok (es, z) → ◌≡◌ {A = Survey} (record { head = h; start = p; rest = q; records = length es; slips = length (all_slips es) }) v → G) → G
   of_entries h p q (Ok x) v e k = k x.0 x.1 refl (cc)
-  of_entries h p q (Err g) v e k = let z : ◌≡◌ {A = ℕ} 0 1 = cc in absurd (omega arith)
+  of_entries h p q (Err g) v e k = absurd (cc)
 
   of_placed : {X : Type 0} (m : Read X) (f : ℕ → Result Survey Numbered) (v : Survey) {G : Type 0} → bind (placed m) f ≡ Ok v → ((x : X) (q : ℕ) → m ≡ Ok (x, q) → f q ≡ Ok v → G) → G
   of_placed (Ok x) f v e k = k x.0 x.1 refl e
-  of_placed (Err g) f v e k = let z : ◌≡◌ {A = ℕ} 0 1 = cc in absurd (omega arith)
+  of_placed (Err g) f v e k = absurd (cc)
 
   pub found : (v : Survey) → Ok v ≡ surveyed C b → Found C b v
   found v u =
@@ -60,7 +60,7 @@ module _ {L : Type 0} (C : Coding L) (own : Own C) (b : List ℕ) where
       subst (Found C b) o made)))
 
   entries_fault : (h : Header) (ps : List L) (p q : ℕ) (m : Read (List (Entry L))) (g : Numbered) → bind {Y = Survey} (counted m) (λ c. Ok (record { head = h; start = p; rest = q; records = c.0; slips = c.1 })) ≡ Err g → then {Y = Script L} m (λ es r. Ok (record { head = h; proposals = ps; records = es })) ≡ Err g
-  entries_fault h ps p q (Ok x) g e = let z : ◌≡◌ {A = ℕ} 0 1 = cc in absurd (omega arith)
+  entries_fault h ps p q (Ok x) g e = absurd (cc)
   entries_fault h ps p q (Err f) g e = let i : f ≡ g = cc in ap Err i
 
   labels_fault : (h : Header) (p : ℕ) (m : Read (List L)) (g : Numbered) → bind {Y = Survey} (placed m) (λ q. bind {Y = Survey} (counted (entries C h.boards (bad_map h) (length b) 0 0 b q)) (λ c. Ok (record { head = h; start = p; rest = q; records = c.0; slips = c.1 }))) ≡ Err g → then {Y = Script L} m (λ ps q. then {Y = Script L} (entries C h.boards (bad_map h) (length b) 0 0 b q) (λ es r. Ok (record { head = h; proposals = ps; records = es }))) ≡ Err g
@@ -95,32 +95,23 @@ module _ {L : Type 0} {C : Coding L} {b : List ℕ} {v : Survey} (f : Found C b 
 
   no_room : (m : Lists L) (t : Bool) → room whole m ≡ t → (v.head.boards ≤ length m.proposals → v.records ≤ length m.records → v.slips ≤ length m.slips → ⊥) → t ≡ false
   unfolding whole
-  no_room m true e h =
-      let a = and_parts (leb (length f.ps) (length m.proposals)) _ e in
-      let c = and_parts (leb (length f.es) (length m.records)) _ a.1 in
-      let i = leb-true _ _ a.0 in
-      let j = leb-true _ _ c.0 in
-      let k = leb-true _ _ c.1 in
-      let x = f.counts in
-      let y = f.counts_slips in
-      let z = f.counts_labels in
-      absurd (h (omega arith) (omega arith) (omega arith))
+  no_room m true e h = grind (arith, common_steps)
   no_room m false e h = refl
 
   pub reads_short : (m : Lists L) → (v.head.boards ≤ length m.proposals → v.records ≤ length m.records → v.slips ≤ length m.slips → ⊥) → (Err (10, length b, InScript) ≡ reads C b m) × (m ≡ filled (decode C b) m)
   reads_short m h = answers m false (no_room m (room whole m) refl h)
 
   labels_at : (m : Lists L) → v.head.boards ≤ length m.proposals → many (length (take v.head.boards m.proposals)) (read_at C) b v.start ≡ Ok (f.ps, v.rest)
-  labels_at m a = ap (λ k. many k (read_at C) b v.start) (length-take-le v.head.boards m.proposals a) ∙ f.labels_are
+  labels_at m a = grind (arith, common_steps)
 
   pub no_label_fault : (m : Lists L) → v.head.boards ≤ length m.proposals → (g : Numbered) (new : List L) → Filled (many (length (take v.head.boards m.proposals)) (read_at C) b v.start) (Err g) new → ⊥
-  no_label_fault m a g new h = let i = (subst (λ z. Filled z (Err g) new) (labels_at m a) h).0 in let z : ◌≡◌ {A = ℕ} 0 1 = cc (i) in omega arith
+  no_label_fault m a g new h = grind (arith, common_steps)
 
   pub enough : (m k : ℕ) → v.records ≤ m → v.slips ≤ k → Room (entries C v.head.boards (bad_map v.head) (length b) 0 0 b v.rest) m k
-  enough m k h i = let x = f.counts in let y = f.counts_slips in subst (λ z. Room z m k) (sym f.entries_are) (omega arith, omega arith)
+  enough m k h i = grind (arith, common_steps)
 
   pub no_entry_fault : (g : Numbered) (a c : List Record) (d e : List (Slip L)) → Stored (entries C v.head.boards (bad_map v.head) (length b) 0 0 b v.rest) (Err g) a c d e → ⊥
-  no_entry_fault g a c d e h = let i = (subst (λ z. Stored z (Err g) a c d e) f.entries_are h).0 in let z : ◌≡◌ {A = ℕ} 0 1 = cc (i) in omega arith
+  no_entry_fault g a c d e h = grind (arith, common_steps)
 
   pub reads_all : (q : ℕ) (m : Lists L) (own ps : List L) (rs : List Record) (ss : List (Slip L)) → v.head.boards ≤ length m.proposals → v.records ≤ length m.records → v.slips ≤ length m.slips → Filled (many (length (take v.head.boards m.proposals)) (read_at C) b v.start) (Ok q) own → ps ≡ own ++ drop v.head.boards m.proposals → Stored (entries C v.head.boards (bad_map v.head) (length b) 0 0 b v.rest) (Ok tt) m.records rs m.slips ss → (Ok (v.head, v.records) ≡ reads C b m) × (lists ps rs ss ≡ filled (decode C b) m)
   unfolding whole

@@ -1,12 +1,13 @@
 -- What readers tell of bytes that a writer wrote.
+use Rattle.std.proofs.lemmas.Grind.{common_steps}
 use Rattle.std.proofs.Common.{◌≡◌, ℕ, zero, suc, ◌+◌, ◌*◌, ◌^◌, ◌<◌, ◌≤◌, Bool, true, false, cond, not, eqb, ltb, leb, ◌⊎◌, List, [], ◌∷◌, ◌++◌, length, take, drop, is_some, Some, None, Ok, Option, Result, sym, refl, ap, ◌∙◌, subst, inl, inr, append_assoc, append-nil, arith}
 use lib.Count.{ones}
-use Rattle.std.proofs.lemmas.List.{length-append, length-drop, length-take-le, take_at, take_all}
+use Rattle.std.proofs.lemmas.List.{length-append, length-drop, length-take-le, take_all}
 use Rattle.std.proofs.lemmas.Bool.{cases_lt, le-leb, lt-leb, lt-ltb, leb-true}
-use Rattle.labels.specs.Coding.{Coding, Own, room, read_as, read_at}
-use Rattle.labels.specs.Faults.{Numbered, require}
+use Rattle.labels.specs.Coding.{Coding, Own, read_at}
+use Rattle.labels.specs.Faults.{Numbered}
 use Rattle.labels.specs.declared.fault.Reader.{Reader}
-use Rattle.labels.specs.declared.fault.Reader.TheVariants.{Label, Record as InRecord, Script as InScript}
+use Rattle.labels.specs.declared.fault.Reader.TheVariants.{Record as InRecord, Script as InScript}
 use Rattle.labels.specs.declared.slip.Slip.{Slip}
 use Rattle.script.specs.declared.model.Header.{Header}
 use Rattle.script.specs.declared.model.Record.{Record}
@@ -34,11 +35,7 @@ pair_forth d b p x l e = ap (first_two d p) e ∙ ap (λ y. Ok (y, p + 2)) (omeg
 
 module _ {L : Type 0} (C : Coding L) (own : Own C) where
   pub label_forth : Forth (read_at C) C.write
-  label_forth b p x l e =
-      let wide = own.wide x in
-      let n : room C b p ≡ true = le-leb _ _ (omega (arith, length-drop p b, ap length e, length-append (C.write x) l)) in
-      let t : take C.width (drop p b) ≡ C.write x = ap (take C.width) e ∙ take_at (C.write x) l C.width wide in
-      ap (λ z. require z (13, p, Label) (read_as C p (C.read (take C.width (drop p b))))) n ∙ ap (λ z. read_as C p (C.read z)) t ∙ ap (read_as C p) (own.back x) ∙ ap (λ q. Ok (x, p + q)) (sym wide)
+  label_forth b p x l e = grind (arith, common_steps)
 
   pub slip_forth : Forth (slip C) (slip_bytes C)
   slip_forth b p x l e =
@@ -84,8 +81,8 @@ module _ {X : Type 0} (f : List ℕ → ℕ → Read X) (w : X → List ℕ) (fo
 -- a header field that was read is the one that stood
 field_told : (s : Bool) (ok : ℕ → Bool) (d : ℕ) (o : Option ℕ) (b : List ℕ) (p : ℕ) (l : List ℕ) (t : Option ℕ) (q : ℕ) → s ≡ is_some o → drop p b ≡ listed o ++ l → field s ok d b p ≡ Ok (t, q) → (t ≡ o) × (drop q b ≡ l) × (q ≡ p + length (listed o))
 field_told false ok d None b p l t q i e h = let s = ok_same None t p q h in (sym s.0, ap (λ z. drop z b) (sym s.1) ∙ e, let v = s.1 in omega arith)
-field_told false ok d (Some v) b p l t q i e h = let z : ◌≡◌ {A = ℕ} 0 1 = cc in absurd (omega arith)
-field_told true ok d None b p l t q i e h = let z : ◌≡◌ {A = ℕ} 0 1 = cc in absurd (omega arith)
+field_told false ok d (Some v) b p l t q i e h = absurd (cc)
+field_told true ok d None b p l t q i e h = absurd (cc)
 field_told true ok d (Some v) b p l t q i e h =
     let h₁ = then_at (byte InScript b p) _ _ v (p + 1) (byte_forth InScript b p v l e) h in
     let h₂ = (require_inv (ok v) _ _ _ h₁).1 in

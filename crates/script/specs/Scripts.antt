@@ -1,11 +1,11 @@
 -- What a backplane that obeys records keeps. Assumes nothing.
 use Rattle.std.specs.Prelude.{◌≡◌, ℕ, ◌+◌, ◌%◌, ◌^◌, ◌≤◌, Bool, false, cond, ◌&&◌, ◌⊎◌, List, [], ◌∷◌, ◌++◌, Some, None, Option, count_ones, nat_lt, refl}
 use Rattle.std.proofs.Common.{ap, ◌∙◌, inl, inr}
-use Rattle.std.proofs.lemmas.Bool.{cond-true, cond-false, lt-ltb, le-ltb, and_from, and_left, and_right}
+use Rattle.std.proofs.lemmas.Bool.{cond_both, cond-true, cond-false, lt-ltb, le-ltb, and_from, and_left, and_right}
 use Rattle.std.specs.List.{slice_get}
 use Rattle.exchanges.specs.Boards.{bit}
 use Rattle.exchanges.specs.Plane.{Call, turn, carry, Keeps, round_after, next_round, last_round}
-use Rattle.exchanges.specs.Cuts.{choose, each_at, free}
+use Rattle.exchanges.specs.Cuts.{each_at, free}
 use Rattle.script.specs.declared.model.Record.{Record}
 use Rattle.script.specs.declared.rules.Rule.{Rule}
 use Rattle.script.specs.ScriptAnswers.{first_rule, obeyed, loses, script}
@@ -18,7 +18,7 @@ module _ {I : Type 0} (slips : List I) (bad s d : ℕ) (x : Option I) where
   obeyed_faithful : (o : Option Rule) → bit bad s ≡ false → (obeyed o slips bad s d x ≡ x) ⊎ (obeyed o slips bad s d x ≡ None)
   obeyed_faithful None e = inl refl
   obeyed_faithful (Some c) e =
-      choose (λ y. (y ≡ x) ⊎ (y ≡ None)) (bit c.lost d) None _ (inr refl) (inl (ap (kept_by c) e))
+      cond_both (bit c.lost d) None _ (λ y. (y ≡ x) ⊎ (y ≡ None)) (λ _. inr refl) (λ _. inl (ap (kept_by c) e))
 
   obeyed_clear : (o : Option Rule) → bit bad s ≡ false → loses o d ≡ false → obeyed o slips bad s d x ≡ x
   obeyed_clear None e h = refl
@@ -31,7 +31,7 @@ round_stays r (carry s d x ∷ l) m h = round_stays r l m h
 
 pub script_keeps : {I : Type 0} (n bad : ℕ) (records : List Record) (slips : List I) (round : ℕ) → Keeps (script n bad records slips round)
 script_keeps n bad records slips round = record {
-  faithful = λ l s d x p. choose (λ y. (y ≡ x) ⊎ (y ≡ None)) (nat_lt s n && nat_lt d n) _ None (obeyed_faithful slips bad s d x (first_rule records 0 (round_after round l) s) p.1) (inr refl);
+  faithful = λ l s d x p. cond_both (nat_lt s n && nat_lt d n) _ None (λ y. (y ≡ x) ⊎ (y ≡ None)) (λ _. obeyed_faithful slips bad s d x (first_rule records 0 (round_after round l) s) p.1) (λ _. inr refl);
   clears = λ l s d x p q c.
       let o = first_rule records 0 (round_after round l) s in
       let e = free (bit bad s) (bit bad d) (loses o d) (each_at _ n d (each_at _ n s c p.0) q.0) p.1 q.1 in

@@ -76,7 +76,7 @@ pub(crate) fn form<L: Label>(script: Script<L>, out: &mut [u8]) -> Result<usize,
     ensures { Puts (formed L.coding script.entry.head script.entry.count (lists script.entry.proposals.now script.entry.records.now script.entry.slips.now)) out.old 0 (answered result) out.new }
 {
     let start = put_header(L::KIND.number(), script.head, out)?;
-    let n = script.head.boards as usize;
+    let n = usize::from(script.head.boards);
     let there = n.min(script.proposals.len());
     let rest = put_row::<L, Labels>(&script.proposals[..there], out, start)?;
     if there < n {

@@ -24,7 +24,7 @@ pub(crate) fn survey<L: Label>(input: &[u8]) -> Result<Survey, Fault>
         return Err(Reader::Script.fault_at(60_000, Refusal::ScriptTooLong));
     }
     let (head, start) = read_header(L::KIND.number(), input, 0)?;
-    let rest = skip_row::<L, Labels>(head.boards as usize, input, start)?;
+    let rest = skip_row::<L, Labels>(usize::from(head.boards), input, start)?;
     let (records, slips) = count_entries::<L>(head, input, rest)?;
     Ok(Survey {
         head,
@@ -49,7 +49,7 @@ pub fn read<L: Label>(
     ensures trip { WritesBack L.coding }
 {
     let found = survey::<L>(input)?;
-    let n = found.head.boards as usize;
+    let n = usize::from(found.head.boards);
     if proposals.len() < n || records.len() < found.records || slips.len() < found.slips {
         return Err(Reader::Script.fault_at(input.len(), Refusal::MemoryTooShort));
     }

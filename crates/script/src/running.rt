@@ -27,6 +27,7 @@ fn propose_all<L: Ordered>(panel: &mut Panel<L>, proposals: &[L]) -> Result<(), 
 }
 
 // So many phases, one after another.
+// Kept three blocks: the panel takes them so, and says of each what of it is left as it was.
 fn run_phases<L: Ordered, E: Exchange<Slip<L>>>(
     panel: &mut Panel<L>,
     exchange: &mut E,
@@ -70,7 +71,7 @@ fn open_panel<L: Ordered>(
     ensures { Went L.order (state panel.old) (opening head proposals.now) (state panel.new) result }
 {
     panel.fit(head.boards, head.faults_borne())?;
-    let there = (head.boards as usize).min(proposals.len());
+    let there = usize::from(head.boards).min(proposals.len());
     propose_all(panel, &proposals[..there])
 }
 
@@ -78,6 +79,7 @@ fn open_panel<L: Ordered>(
 // verdict of each board stands at the board's place of the list `told`, and the answer is how many
 // phases were run. At the first call that the panel refuses the run ends with this refusal, and the
 // list stays as it was. The slots and the three blocks are free afterwards.
+// Kept three blocks, as the panel takes them.
 pub fn run<L: Ordered>(
     script: Script<L>,
     slots: &mut [Option<Slip<L>>],
@@ -89,7 +91,7 @@ pub fn run<L: Ordered>(
     ensures { Ran L.order slots.old (history L.order slots.old (sizes (length heard.old) (length picks.old) (length work.old)) script.entry.head script.entry.count (lists script.entry.proposals.now script.entry.records.now script.entry.slips.now)) script.entry.head.boards (phases_due script.entry.head) told.old told.new result }
 {
     let head = script.head;
-    let n = head.boards as usize;
+    let n = usize::from(head.boards);
     if told.len() < n {
         return Err(Refusal::MemoryTooShort);
     }

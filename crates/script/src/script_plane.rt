@@ -23,6 +23,7 @@ pub struct ScriptBackplane<'a, I> {
 }
 
 // What the receiver hears under the sender's rule.
+// Kept parameters: a rule, the lists and a carry meet only here.
 fn obey<I: Copy>(
     rule: Option<Rule>,
     slips: &[I],

@@ -1,13 +1,10 @@
-use Rattle.std.proofs.Common.{◌≡◌, ℕ, ◌+◌, ◌*◌, ◌<◌, List, [], length, set, fold, sym, ap, ◌∙◌, subst, arith, rules}
+use Rattle.std.proofs.Common.{◌≡◌, ℕ, ◌+◌, ◌*◌, ◌<◌, [], length, set, fold, sym, ap, ◌∙◌, subst, arith, rules}
 use Rattle.exchanges.specs.declared.path.Shape.{Shape}
 use Rattle.exchanges.specs.Plane.{carry, after}
-use Rattle.exchanges.specs.Trees.{Hop, place}
-use Rattle.exchanges.specs.Slots.{trail, held, Worked, Work, carried, hops_from, hops_to}
+use Rattle.exchanges.specs.Trees.{place}
+use Rattle.exchanges.specs.Slots.{trail, held, Worked, Work, carried, hops_from}
 use Rattle.exchanges.proofs.Slots.{slot_in, work_step, sent_more}
 use Rattle.exchanges.proofs.rounds.send.Goals as goal
-
-pub overflow_mul-p : goal.overflow_mul-p
-overflow_mul-p g c = omega (arith, slot_in c.args.path _ c.loop-p.p c.place-place.result c.requires.holds c.loop-p-test.true c.requires.some c.place-place.ensures)
 
 pub overflow_add-p : goal.overflow_add-p
 overflow_add-p g c = omega (arith, slot_in c.args.path _ c.loop-p.p c.place-place.result c.requires.holds c.loop-p-test.true c.requires.some c.place-place.ensures)
@@ -33,12 +30,3 @@ loop-p-preserved g c =
     let held_is = c.read-item.ensures ∙ ap (λ (s : Shape). held s.n s.size own c.loop-p.ws q α) c.split-q.ensures.shape in
     let step = work_step shape.n shape.size own (fold (carried shape.n shape.size own) start (hops_from c.loop-p.p α q)) (record { path = α; from = q; to = c.loop-p.p }) b (g.B.Backplane.plane c.carry.new.self) c.loop-p.ws c.read-item.result c.carry.result (c.loop-p.p * shape.size + c.place-place.result) c.loop-p.invariant held_is answers leaves at in
     subst (λ (w : Work g.row.I.Denot). Worked (g.B.Backplane.plane c.carry.new.self) (set c.loop-p.ws (c.loop-p.p * shape.size + c.place-place.result) c.carry.result) w) (sym (sent_more shape.n shape.size own start α q c.loop-p.p)) step
-
-pub returns : goal.returns
-returns g c =
-    let shape = c.args.path.shape in
-    let rest = c.split-q.result.0 in
-    let start : Work g.row.I.Denot = record { plane = g.B.Backplane.plane c.args.b.now; slots = c.args.ws.now } in
-    let W = λ (hs : List Hop). Worked (g.B.Backplane.plane c.loop-p.b) c.loop-p.ws (fold (carried shape.n shape.size c.args.own.now) start hs) in
-    let all : c.loop-p.p ≡ shape.n = omega arith in
-    subst (λ (α : List ℕ). W (hops_to shape.n α)) (sym c.split-q.ensures.parts) (subst (λ (m : ℕ). W (hops_from m (trail rest.boards rest.len) c.split-q.result.1)) all c.loop-p.invariant)

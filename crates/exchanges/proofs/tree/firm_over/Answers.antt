@@ -1,13 +1,13 @@
-use Rattle.std.proofs.Common.{◌≡◌, ℕ, ◌+◌, ◌*◌, Bool, cond, ◌||◌, ltb, ◌++◌, length, take, drop, None, ap, ◌∙◌, subst}
+use Rattle.std.proofs.Common.{◌≡◌, ℕ, ◌+◌, ◌*◌, Bool, cond, ◌||◌, ltb, length, None, ◌∙◌, subst}
 use Rattle.exchanges.specs.Boards.{fits}
 use Rattle.exchanges.specs.Asked.{short, due}
-use Rattle.exchanges.specs.Trees.{tree_size, filled, workspace}
+use Rattle.exchanges.specs.Trees.{tree_size}
 use Rattle.exchanges.proofs.Dues.{none_due}
 use Rattle.exchanges.proofs.Firms.{Done, done_at}
 use Rattle.exchanges.proofs.tree.firm_over.Goals as goal
 
-pub returns : goal.returns
-returns g c =
+pub returns-clause-ran : goal.returns-clause-ran
+returns-clause-ran g c =
     let plane = g.B.Backplane.plane in
     let same = g.I.Item.same in
     let b = plane c.args.b.now in
@@ -19,10 +19,6 @@ returns g c =
     let t = c.new.result.t in
     let sh : ℕ → Bool = λ m. short m s h || ltb (length w) (cond (fits m f) (m * tree_size m f) 0) in
     let none = none_due c.boards-boards.result b.boards f c.round.result b.round (c.from.result + 1) sh c.lacks_room-short.result c.boards-boards.ensures c.lacks_room-short.ensures c.round.ensures c.in_ok-size.ensures.0 in
-    let T = (filled n (t + 1) b (take n s)).trees in
-    let run : Done same b (plane c.run_trees.new.b) s h c.run_trees.new.heard w c.run_trees.new.ws n t = record { plane = c.run_trees.ensures.plane; heard = c.run_trees.ensures.heard; work = c.run_trees.ensures.work ∙ ap (λ (x : ℕ). workspace same n t T ++ drop (n * x) w) c.new.result.sized } in
-    let done = done_at same b (plane c.run_trees.new.b) s h c.run_trees.new.heard w c.run_trees.new.ws n b.boards t f (c.new.ensures.0 ∙ c.in_ok-size.ensures.1 ∙ c.boards-boards.ensures) (c.new.ensures.1 ∙ c.in_ok-size.ensures.2) run in
-    record {
-      ran = (subst (λ (k : ℕ). due b.boards f (sh b.boards) b.round (k + 1) ≡ None) c.from.ensures none, done.plane, done.heard);
-      left = done.work;
-    }
+    let run : Done same b (plane c.run_trees.new.b) s h c.run_trees.new.heard n t = record { plane = c.run_trees.ensures.plane; heard = c.run_trees.ensures.heard } in
+    let done = done_at same b (plane c.run_trees.new.b) s h c.run_trees.new.heard n b.boards t f (c.new.ensures.0 ∙ c.in_ok-size.ensures.1 ∙ c.boards-boards.ensures) (c.new.ensures.1 ∙ c.in_ok-size.ensures.2) run in
+    (subst (λ (k : ℕ). due b.boards f (sh b.boards) b.round (k + 1) ≡ None) c.from.ensures none, done.plane, done.heard)

@@ -19,7 +19,7 @@ returns-then-proposals-n g c =
 pub returns-in_err-fill_row : goal.returns-in_err-fill_row
 returns-in_err-fill_row g c =
     let f = found g.L.Label.coding g.met.L.Label.own c.args.input.now c.in_ok-found.found c.in_ok-found.ensures in
-    absurd (no_label_fault f (lists c.args.proposals.now c.args.records.now c.args.slips.now) (omega arith) _ _ c.in_err-fill_row.ensures)
+    absurd (no_label_fault f (lists c.args.proposals.now c.args.records.now c.args.slips.now) (omega arith) _ _ (rw c.from-n.ensures at c.in_err-fill_row.ensures))
 
 pub fill_entries-requires : goal.fill_entries-requires
 fill_entries-requires g c =
@@ -34,5 +34,5 @@ returns-in_err-fill_entries g c =
 pub returns : goal.returns
 returns g c =
     let f = found g.L.Label.coding g.met.L.Label.own c.args.input.now c.in_ok-found.found c.in_ok-found.ensures in
-    let e = reads_all f _ (lists c.args.proposals.now c.args.records.now c.args.slips.now) _ _ _ _ (omega arith) (omega arith) (omega arith) c.in_ok-fill_row.ensures refl c.in_ok-fill_entries.ensures in
-    record { value = e.0; after = e.1; trip = writes_back g.L.Label.coding g.met.L.Label.own }
+    let e = reads_all f _ (lists c.args.proposals.now c.args.records.now c.args.slips.now) _ _ _ _ (omega arith) (omega arith) (omega arith) (rw c.from-n.ensures at c.in_ok-fill_row.ensures) refl c.in_ok-fill_entries.ensures in
+    record { value = e.0; after = rw c.from-n.ensures e.1; trip = writes_back g.L.Label.coding g.met.L.Label.own }

@@ -19,13 +19,12 @@ unwrap-requires c =
     let found : c.nth.result ≡ Some (get_or (others n α) c.args.i 0) = sym (option_map_id c.nth.result) ∙ got ∙ slice_get-get_or (others n α) c.args.i 0 within in
     search rules
 
-pub returns : goal.returns
-returns c =
+pub returns-clause-next : goal.returns-clause-next
+returns-clause-next c =
     let n = c.args.self.shape.n in
     let α = trail c.args.self.boards c.args.self.len in
     let got = nth_from_yields_List c.nth.result _ c.args.i c.nth.ensures.ran (YieldsList-from_filter _ (λ q. not (on q α)) (YieldsList-from_range 0 n n (cc) (omega arith)) c.filter.ensures.closure (λ x b q k. search (rules, tests))) in
     let within : c.args.i < length (others n α) = omega (arith, length_others n α c.args.self.differ, length_trail c.args.self.boards c.args.self.len) in
     let found : c.nth.result ≡ Some (get_or (others n α) c.args.i 0) = sym (option_map_id c.nth.result) ∙ got ∙ slice_get-get_or (others n α) c.args.i 0 within in
     let is : c.unwrap.result ≡ get_or (others n α) c.args.i 0 = cc (found, c.unwrap.ensures) in
-    let other = other_in n α c.args.i c.unwrap.result c.args.self.differ within is in
-    record { board = other.board; off = other.off; next = other.next }
+    (other_in n α c.args.i c.unwrap.result c.args.self.differ within is).next

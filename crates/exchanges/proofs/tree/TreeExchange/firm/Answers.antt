@@ -6,8 +6,11 @@ use Rattle.exchanges.proofs.Firms.{left_kept}
 use Rattle.exchanges.proofs.TreeLaws.{tree_laws}
 use Rattle.exchanges.proofs.tree.TreeExchange.firm.Goals as goal
 
-pub returns : goal.returns
-returns g c =
+pub returns-clause-laws : goal.returns-clause-laws
+returns-clause-laws g c = tree_laws
+
+pub returns-clause-asked : goal.returns-clause-asked
+returns-clause-asked g c =
     let same = g.I.Item.same in
     let plane = g.B.Backplane.plane in
     let t = c.args.self.now.faults in
@@ -19,8 +22,4 @@ returns g c =
     let w = c.args.work.now in
     let w' = c.firm_over.new.work in
     let r = c.firm_over.result in
-    record {
-      asked = firm_asked (tree_way same t) (tree_well same g.I.Item.tells t) plane (tree_exchange same plane) (λ b. record { plane = b; faults = t }) (λ b. refl) b b' s h h' w w' r c.firm_over.ensures.ran (left_kept same t plane b b' s h h' w w' r c.firm_over.ensures.ran c.firm_over.ensures.left c.firm_over.auto.work);
-      left = c.firm_over.ensures.left;
-      laws = tree_laws;
-    }
+    firm_asked (tree_way same t) (tree_well same g.I.Item.tells t) plane (tree_exchange same plane) (λ b. record { plane = b; faults = t }) (λ b. refl) b b' s h h' w w' r c.firm_over.ensures.ran (left_kept same t plane b b' s h h' w w' r c.firm_over.ensures.ran c.firm_over.ensures.left c.firm_over.auto.work)
