@@ -4,7 +4,7 @@
 usage: python3 tools/places.py [FOLDER]     each place, one a line, and the counts last
        python3 tools/places.py --count [FOLDER]     the counts alone
 
-It goes by text: a row is a place to look at. A place that stays has a comment that begins `Kept` at most six lines above it, or (points 2 and 5) at the head of its file, and is counted apart.
+It goes by text: a row is a place to look at. A place that stays has a comment that begins `Kept` at most six lines above it, and is counted apart.
 """
 
 import difflib
@@ -57,7 +57,7 @@ SPELT = [
 
 def point1(name, lines, out):
     for k, line in enumerate(lines):
-        if re.search(r"Result<Result<|-> Option<Refusal>|fn kind_number|const KIND: u8|== <\w+ as Label>::|!= <\w+ as Label>::", line):
+        if re.search(r"Result<Result<|-> Option<Refusal>|fn kind_number|const KIND: u8;|== <\w+ as Label>::|!= <\w+ as Label>::", line):
             out.append((1, name, k, line.strip()))
         elif any(p.match(line) for p in SPELT):
             out.append((1, name, k, line.strip()))
@@ -92,7 +92,7 @@ def point4(name, lines, out):
     for k, line in enumerate(lines):
         if re.search(r"fn (compare|is_below|is_equal|is_same|by_number|same_slots|is_later|digit)\b", line):
             out.append((4, name, k, line.strip()))
-        elif re.search(r"(?<!self) as (usize|u8|u16|u32)\b", line):
+        elif re.search(r"(?<!self)(?<!Kind::Frames)(?<!Kind::Stamps) as (usize|u8|u16|u32)\b", line):
             out.append((4, name, k, line.strip()))
         elif re.search(r"/ 10_000_000|\.wrapping_mul\(16\)", line):
             out.append((4, name, k, line.strip()))
@@ -105,7 +105,7 @@ def point6(name, lines, out):
     if name.startswith("crates/script/"):
         out.extend((6, name, k, line.strip()) for k, line in enumerate(lines) if re.search(r": (mut )?Vec<", line))
     for k, line in enumerate(lines):
-        if re.search(r"^\s*(pub )?(pub\(crate\) )?len: usize,|\bcount: usize,$|= \[.*; [0-9_]+\];|start >= items\.len|: \[Option<Rule>; 8\],", line):
+        if re.search(r"^\s*(pub )?(pub\(crate\) )?len: usize,|\bcount: usize,$|= \[.*; [0-9A-Z_]+\];|start >= items\.len|: \[Option<Rule>; 8\],", line):
             out.append((6, name, k, line.strip()))
 
 
@@ -171,10 +171,9 @@ def main():
     point5(texts, out)
     of = dict(raw)
     kept = []
-    for point, name, k, _ in out:
+    for _, name, k, _ in out:
         near = of[name][max(0, k - 6) : k + 1]
-        head = of[name][:8] if point in (2, 5) else []
-        kept.append(any(KEPT.search(line) for line in near + head))
+        kept.append(any(KEPT.search(line) for line in near))
     if "--count" not in sys.argv:
         for (point, name, k, line), stays in sorted(zip(out, kept)):
             print(f"{point} {name}:{k + 1}: {'(kept) ' if stays else ''}{line}")

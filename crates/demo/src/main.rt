@@ -14,7 +14,7 @@ use crate::firm_steps::show_firm;
 use crate::settle_steps::show_settling;
 use labels::fault::Fault;
 use labels::frame_number::FrameNumber;
-use labels::kind::{Kind, UnknownKind};
+use labels::kind::Kind;
 use labels::label::Label;
 use labels::reading::{read_label, write_label};
 use labels::smallest::smallest;
@@ -88,10 +88,7 @@ fn show_panel<L: Label + Display>(
     start: usize,
     boards: u8,
 ) -> anyhow::Result<usize> {
-    println!(rt;
-        "panel of {boards} boards, labels of kind {}",
-        L::KIND.number()
-    )?;
+    println!(rt; "panel of {boards} boards, labels of kind {}", L::KIND)?;
     let size = L::WIDTH.saturating_mul(usize::from(boards));
     if let Some(proposals) = read_proposals::<L>(rt, input, start, boards)? {
         show_smallest(rt, &proposals)?;
@@ -112,8 +109,8 @@ fn show_panels(rt: &HostRuntime, input: &[u8]) -> anyhow::Result<()> {
         let size = match Kind::try_from(*kind) {
             Ok(Kind::Frames) => show_panel::<FrameNumber>(rt, input, start, *boards)?,
             Ok(Kind::Stamps) => show_panel::<TriggerStamp>(rt, input, start, *boards)?,
-            Err(UnknownKind(kind)) => {
-                println!(rt; "no labels of kind {kind}")?;
+            Err(unknown) => {
+                println!(rt; "{unknown}")?;
                 break;
             }
         };

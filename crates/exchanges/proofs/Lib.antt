@@ -1,3 +1,4 @@
+pub mod Apart
 pub mod Dues
 pub mod Asks
 pub mod Table

@@ -1,11 +1,12 @@
 -- Where the slots stand, and one carry more.
 use Rattle.std.proofs.lemmas.Grind.{common_steps}
-use Rattle.std.proofs.Common.{◌≡◌, ℕ, zero, suc, ◌+◌, ◌-◌, ◌*◌, ◌<◌, ◌≤◌, ◌≢◌, List, [], ◌∷◌, length, get_or, set, None, fold, Option, refl, ap, ◌∙◌, add-one, arith}
+use Rattle.std.proofs.Common.{◌≡◌, ℕ, zero, suc, ◌+◌, ◌-◌, ◌*◌, ◌<◌, ◌≤◌, ◌≢◌, List, [], ◌∷◌, length, get_or, set, None, fold, Option, sym, refl, ap, ◌∙◌, subst, add-one, arith}
 use Rattle.std.proofs.lemmas.Nat.{mul-add-lt}
 use Rattle.std.proofs.lemmas.List.{get_or-set_same, get_or-set_other}
 use Rattle.std.proofs.lemmas.List.Sums.{fold_push}
 use Rattle.std.proofs.lemmas.List.FromFn.{map-range_with_len_more}
 use Rattle.exchanges.specs.declared.path.Path.{Path}
+use Rattle.exchanges.specs.declared.path.Shape.{Shape}
 use Rattle.exchanges.specs.Boards.{most_boards}
 use Rattle.exchanges.specs.Plane.{Plane, carry, after}
 use Rattle.exchanges.specs.Trees.{IsPath, Hop, place, start, tree_size}
@@ -66,3 +67,7 @@ slot_in path slots p at holds lp some e =
     let small = all_small n t path.shape.few path.shape.fewer in
     let same = ap (λ (x : ℕ). n * x) path.shape.sized in
     (omega arith, omega arith)
+
+-- slots that hold the trees of one shape hold those of the same shape
+pub room_alike : (a b : Shape) (slots : ℕ) → a ≡ b → b.n * b.size ≤ slots → a.n * a.size ≤ slots
+room_alike a b slots e h = subst (λ (s : Shape). s.n * s.size ≤ slots) (sym e) h

@@ -9,6 +9,7 @@ pub mod Trees
 pub mod Reduction
 pub mod Slots
 pub mod Left
+pub mod Lent
 pub mod TreeLaws
 pub mod Worked
 pub mod Carries

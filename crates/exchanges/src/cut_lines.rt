@@ -12,10 +12,7 @@ use labels::refusal::Refusal;
 fn is_cut(rows: &[u8; 7], from: usize, to: usize) -> bool
     ensures { result ≡ cut rows.now from to }
 {
-    if from >= 7 {
-        return false;
-    }
-    has(rows[from], to)
+    rows.get(from).is_some_and(|row| has(*row, to))
 }
 
 #[derive(Drop)]

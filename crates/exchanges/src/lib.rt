@@ -10,5 +10,6 @@ mod path;
 mod plain;
 mod rounds;
 pub mod tree;
+mod trees;
 pub mod two_faced;
 mod votes;

@@ -134,7 +134,7 @@ impl Path {
         ensures next { result.index ≡ self.index * (self.shape.n - self.len) + i }
     {
         let mut boards = self.boards;
-        // Kept a cast: it is proved to lose nothing, where `try_from` would ask for an answer to what cannot be.
+        // Kept a cast: it loses nothing, and `try_from` would want an answer for an error that cannot arise.
         boards[self.len] = self.other(i) as u8;
         Path {
             shape: self.shape,

@@ -59,7 +59,7 @@ fn send_to_each<I: Copy, B: Backplane<I>>(
     requires room { size.boards * size.boards ≤ length heard.old }
     ensures { heard_at (B.plane b.new) heard.new ≡ to_each size.boards item s (heard_at (B.plane b.old) heard.old) size.boards }
 {
-    // Kept by place: what is heard from one sender is a column of the square, and no slice has it.
+    // Kept by place: what is heard from one sender is a column, and after `iter_mut` with steps a proof knows no element.
     for d in 0..size.n() {
         heard[place(size, d, s)] = b.carry(s, d, item);
     }

@@ -9,6 +9,7 @@ ghost use Rattle.exchanges.specs.TreeLaws.{TreeLaws};
 ghost use Rattle.exchanges.specs.Carries.{InOrder};
 ghost use Rattle.exchanges.specs.Worked.{AllRight, cases};
 ghost use Rattle.exchanges.specs.Left.{Left};
+ghost use Rattle.exchanges.specs.Lent.{RoundsGoOn};
 ghost use Rattle.exchanges.specs.Keep.{trees_keep};
 
 use crate::backplane::Backplane;
@@ -16,44 +17,42 @@ use crate::exchange::Exchange;
 use crate::fitting::Size;
 use crate::path::Shape;
 use crate::plain::{may_begin, plain_over, too_short};
-use crate::rounds::gather;
-use crate::votes::reduce_all;
+use crate::trees::{Rounds, Trees};
 use labels::item::Item;
 use labels::refusal::Refusal;
 
-// What each board heard from each other: the slots of the paths of one board, which stand first in its tree.
-fn hear<I: Copy>(heard: &mut [Option<I>], ws: &[Option<I>], shape: Shape)
-    requires room { shape.n * shape.size ≤ length ws.now }
-    requires heard { shape.n * shape.n ≤ length heard.old }
-    ensures { heard.new ≡ grid shape.n (λ p q. slice_index_or ws.now (p * shape.size + q) None) ++ drop (shape.n * shape.n) heard.old }
-{
-    let n = shape.n;
-    // Kept by place: the rows of both lists are found by the board, and lie at different distances.
-    for p in 0..n {
-        let row = &ws[p * shape.size..p * shape.size + n];
-        heard[p * n..p * n + n].copy_from_slice(row);
+impl<I: Copy> Trees<'_, I> {
+    // What each board heard from each other: the slots of the paths of one board, which stand first in its tree.
+    fn hear(&self, heard: &mut [Option<I>])
+        requires { self.now.shape.n * self.now.shape.n ≤ length heard.old }
+        ensures { heard.new ≡ grid self.now.shape.n (λ p q. slice_index_or self.now.slots.now (p * self.now.shape.size + q) None) ++ drop (self.now.shape.n * self.now.shape.n) heard.old }
+    {
+        let Shape { n, size, .. } = self.shape;
+        // Kept by place: after `chunks_mut` a proof knows no element.
+        for p in 0..n {
+            let row = &self.slots[p * size..p * size + n];
+            heard[p * n..p * n + n].copy_from_slice(row);
+        }
     }
 }
 
-// The rounds, the reduction, and what is heard.
-fn run_trees<I: Item, B: Backplane<I>>(
-    b: &mut B,
-    own: &[Option<I>],
-    heard: &mut [Option<I>],
-    ws: &mut [Option<I>],
-    shape: Shape,
-)
-    requires sends { shape.n ≤ length own.now }
-    requires holds { shape.n * shape.size ≤ length ws.old }
-    requires heard { shape.n * shape.n ≤ length heard.old }
-    requires timely { (B.plane b.old).round + (shape.t + 1) ≤ last_round }
-    ensures plane { B.plane b.new ≡ (filled shape.n (shape.t + 1) (B.plane b.old) (take shape.n own.now)).plane }
-    ensures heard { heard.new ≡ grid shape.n (λ p q. reduced I.same shape.n shape.t (filled shape.n (shape.t + 1) (B.plane b.old) (take shape.n own.now)).trees shape.t p (q ∷ [])) ++ drop (shape.n * shape.n) heard.old }
-    ensures work { ws.new ≡ workspace I.same shape.n shape.t (filled shape.n (shape.t + 1) (B.plane b.old) (take shape.n own.now)).trees ++ drop (shape.n * shape.size) ws.old }
-{
-    gather(b, own, ws, shape);
-    reduce_all(ws, shape);
-    hear(heard, ws, shape);
+impl<I: Item, B: Backplane<I>> Rounds<'_, '_, '_, I, B> {
+    // The rounds, the reduction, and what is heard.
+    fn run(&mut self, heard: &mut [Option<I>])
+        requires heard { self.old.shape.n * self.old.shape.n ≤ length heard.old }
+        requires timely { (B.plane self.old.plane.now).round + (self.old.shape.t + 1) ≤ last_round }
+        ensures kept { RoundsGoOn self.old self.new }
+        ensures plane { B.plane self.new.plane.now ≡ (filled self.old.shape.n (self.old.shape.t + 1) (B.plane self.old.plane.now) (take self.old.shape.n self.old.own.now)).plane }
+        ensures heard { heard.new ≡ grid self.old.shape.n (λ p q. reduced I.same self.old.shape.n self.old.shape.t (filled self.old.shape.n (self.old.shape.t + 1) (B.plane self.old.plane.now) (take self.old.shape.n self.old.own.now)).trees self.old.shape.t p (q ∷ [])) ++ drop (self.old.shape.n * self.old.shape.n) heard.old }
+        ensures work { self.new.slots.now ≡ workspace I.same self.old.shape.n self.old.shape.t (filled self.old.shape.n (self.old.shape.t + 1) (B.plane self.old.plane.now) (take self.old.shape.n self.old.own.now)).trees ++ drop (self.old.shape.n * self.old.shape.size) self.old.slots.now }
+    {
+        self.gather();
+        let shape = self.shape;
+        let slots = &mut *self.slots;
+        let mut trees = Trees { shape, slots };
+        trees.reduce_all();
+        trees.hear(heard);
+    }
 }
 
 // How many slots the trees of all boards take; none where the counts do not fit.
@@ -90,7 +89,13 @@ pub(crate) fn firm_over<I: Item, B: Backplane<I>>(
     let boards = b.boards();
     let short = lacks_room(boards, faults, sent, heard, work);
     let size = may_begin(boards, faults, short, b.round(), u16::from(faults) + 1)?;
-    run_trees(b, sent, heard, work, Shape::new(size));
+    let mut rounds = Rounds {
+        shape: Shape::new(size),
+        plane: b,
+        own: sent,
+        slots: work,
+    };
+    rounds.run(heard);
     Ok(())
 }
 

@@ -44,10 +44,7 @@ impl<I: Copy> Backplane<I> for TwoFaced<I> {
     }
 
     fn turn(&mut self) -> Result<(), Refusal> {
-        if self.round == u16::MAX {
-            return Err(Refusal::RoundLimit);
-        }
-        self.round += 1;
+        self.round = self.round.checked_add(1).ok_or(Refusal::RoundLimit)?;
         Ok(())
     }
 

@@ -2,8 +2,10 @@
 ghost use Rattle.std.specs.Prelude.{◌≡◌, ◌+◌, ◌-◌, ◌*◌, ◌<◌, ◌≤◌, length, take, drop, fold, count_by};
 ghost use Rattle.exchanges.specs.Trees.{holds, picked};
 ghost use Rattle.exchanges.specs.Slots.{trail, settle, spots_on, spots, reduced_down};
+ghost use Rattle.exchanges.specs.Lent.{GoesOn};
 
-use crate::path::{Path, Shape};
+use crate::path::Path;
+use crate::trees::Trees;
 use labels::item::Item;
 
 // Whether a slot holds the item.
@@ -31,7 +33,7 @@ fn settled<I: Item>(slots: &[Option<I>], need: usize) -> Option<I>
 }
 
 // The same over `len` slots from `first`.
-// Kept apart from `reduce_at`: a part of the slots lent in there gets no generated proof.
+// Kept apart: a call in `reduce_at` that lends a part of the slots gets no generated proof.
 fn settled_in<I: Item>(slots: &[Option<I>], first: usize, len: usize, need: usize) -> Option<I>
     requires { first + len ≤ length slots.now }
     ensures { result ≡ picked I.same need (take len (drop first slots.now)) (take len (drop first slots.now)) }
@@ -39,48 +41,57 @@ fn settled_in<I: Item>(slots: &[Option<I>], first: usize, len: usize, need: usiz
     settled(&slots[first..first + len], need)
 }
 
-// Board p's slot of a path gets what its children settle on.
-fn reduce_at<I: Item>(ws: &mut [Option<I>], p: usize, path: Path)
-    requires holds { path.shape.n * path.shape.size ≤ length ws.old }
-    requires board { p < path.shape.n }
-    requires short { (1 ≤ path.len) × (path.len ≤ path.shape.t) }
-    ensures { ws.new ≡ settle I.same path.shape.n path.shape.t path.shape.size ws.old (record { board = p; path = trail path.boards path.len }) }
-{
-    let shape = path.shape;
-    let off = shape.n - path.len();
-    let first = p * shape.size + path.children();
-    let item = settled_in(ws, first, off, off - shape.t);
-    ws[p * shape.size + path.place()] = item;
-}
-
-// A path reduced for every board.
-fn reduce_on<I: Item>(ws: &mut [Option<I>], path: Path)
-    requires holds { path.shape.n * path.shape.size ≤ length ws.old }
-    requires short { (1 ≤ path.len) × (path.len ≤ path.shape.t) }
-    ensures { ws.new ≡ fold (settle I.same path.shape.n path.shape.t path.shape.size) ws.old (spots_on path.shape.n (trail path.boards path.len)) }
-{
-    for p in 0..path.shape.n {
-        reduce_at(ws, p, path);
+impl<I: Item> Trees<'_, I> {
+    // Board p's slot of a path gets what its children settle on.
+    // Kept a clause: a path bears its shape, and the trees theirs, which are one.
+    fn reduce_at(&mut self, p: usize, path: Path)
+        requires alike { path.shape ≡ self.old.shape }
+        requires board { p < path.shape.n }
+        requires short { (1 ≤ path.len) × (path.len ≤ path.shape.t) }
+        ensures kept { GoesOn self.old self.new }
+        ensures slots { self.new.slots.now ≡ settle I.same path.shape.n path.shape.t path.shape.size self.old.slots.now (record { board = p; path = trail path.boards path.len }) }
+    {
+        let shape = path.shape;
+        let off = shape.n - path.len();
+        let first = p * shape.size + path.children();
+        let slots = &mut *self.slots;
+        let item = settled_in(slots, first, off, off - shape.t);
+        slots[p * shape.size + path.place()] = item;
     }
-}
 
-// All paths of k boards reduced, for every board.
-fn reduce_level<I: Item>(ws: &mut [Option<I>], shape: Shape, k: usize)
-    requires holds { shape.n * shape.size ≤ length ws.old }
-    requires short { (1 ≤ k) × (k ≤ shape.t) }
-    ensures { ws.new ≡ fold (settle I.same shape.n shape.t shape.size) ws.old (spots shape.n k) }
-{
-    for i in 0..shape.paths(k) {
-        reduce_on(ws, Path::at(shape, k, i));
+    // A path reduced for every board.
+    // Kept a clause, as in `reduce_at`.
+    fn reduce_on(&mut self, path: Path)
+        requires alike { path.shape ≡ self.old.shape }
+        requires short { (1 ≤ path.len) × (path.len ≤ path.shape.t) }
+        ensures kept { GoesOn self.old self.new }
+        ensures slots { self.new.slots.now ≡ fold (settle I.same path.shape.n path.shape.t path.shape.size) self.old.slots.now (spots_on path.shape.n (trail path.boards path.len)) }
+    {
+        for p in 0..path.shape.n {
+            self.reduce_at(p, path);
+        }
     }
-}
 
-// The paths of length t down to 1 reduced, for every board.
-pub(crate) fn reduce_all<I: Item>(ws: &mut [Option<I>], shape: Shape)
-    requires { shape.n * shape.size ≤ length ws.old }
-    ensures { ws.new ≡ reduced_down I.same shape.n shape.t shape.size ws.old shape.t }
-{
-    for j in 0..shape.t {
-        reduce_level(ws, shape, shape.t - j);
+    // All paths of k boards reduced, for every board.
+    fn reduce_level(&mut self, k: usize)
+        requires short { (1 ≤ k) × (k ≤ self.old.shape.t) }
+        ensures kept { GoesOn self.old self.new }
+        ensures slots { self.new.slots.now ≡ fold (settle I.same self.old.shape.n self.old.shape.t self.old.shape.size) self.old.slots.now (spots self.old.shape.n k) }
+    {
+        for i in 0..self.shape.paths(k) {
+            self.reduce_on(Path::at(self.shape, k, i));
+        }
+    }
+
+    // The paths of length t down to 1 reduced, for every board.
+    pub(crate) fn reduce_all(&mut self)
+        ensures kept { GoesOn self.old self.new }
+        ensures slots { self.new.slots.now ≡ reduced_down I.same self.old.shape.n self.old.shape.t self.old.shape.size self.old.slots.now self.old.shape.t }
+    {
+        let t = self.shape.t;
+        // Kept counting up: the definition says what j levels come to.
+        for j in 0..t {
+            self.reduce_level(t - j);
+        }
     }
 }

@@ -1,6 +1,5 @@
 // The two kinds of labels: frame numbers and trigger stamps.
 ghost use Rattle.std.specs.Prelude.{◌≡◌, ◌+◌, ◌≤◌, ◌++◌, length, Some, refl};
-ghost use Rattle.labels.specs.declared.kind.Kind.TheVariants.{Frames, Stamps};
 ghost use Rattle.labels.specs.Bytes.{four_bytes, laid};
 ghost use Rattle.labels.specs.Kinds.{frame_order, stamp_order, frame_coding, stamp_coding, frame_text, stamp_text, number_at};
 ghost use Rattle.labels.specs.Orders.{frame_total, frame_compares, stamp_total, stamp_compares};
@@ -14,6 +13,7 @@ use crate::trigger_stamp::TriggerStamp;
 use std::fmt;
 
 // The number in the four bytes from a place on.
+// Kept four reads: a part of the slice as an array would want an answer for a length that cannot be.
 fn number_at(b: &[u8], at: usize) -> u32
     requires { at + 4 ≤ length b.now }
     ensures { result ≡ number_at b.now at }
@@ -38,13 +38,13 @@ impl Ordered for FrameNumber {
 }
 
 impl Label for FrameNumber {
-    const KIND: Kind = Kind::Frames;
+    const KIND: u8 = Kind::Frames as u8;
 
     const WIDTH: usize = 4;
 
     ghost coding = { frame_coding };
 
-    ghost KIND = { Frames };
+    ghost KIND = { 1 };
 
     ghost WIDTH = { 4 };
 
@@ -79,13 +79,13 @@ impl Ordered for TriggerStamp {
 }
 
 impl Label for TriggerStamp {
-    const KIND: Kind = Kind::Stamps;
+    const KIND: u8 = Kind::Stamps as u8;
 
     const WIDTH: usize = 8;
 
     ghost coding = { stamp_coding };
 
-    ghost KIND = { Stamps };
+    ghost KIND = { 2 };
 
     ghost WIDTH = { 8 };
 

@@ -1,20 +1,19 @@
 // What a kind of label is.
 ghost use Rattle.std.specs.Prelude.{◌≡◌, ℕ};
-ghost use Rattle.labels.specs.declared.kind.Kind.{Kind};
-ghost use Rattle.labels.specs.KindNumbers.{kind_row};
 ghost use Rattle.labels.specs.Coding.{Coding, Own, Overwrites};
 
-use crate::kind::Kind;
 use crate::order::Ordered;
 
 // A kind of label: ordered, and with bytes of its own.
 pub trait Label: Ordered {
-    const KIND: Kind;
+    // the number of the kind
+    // Kept a number: a further kind has its own, and need not be one of the two here.
+    const KIND: u8;
 
     // how many bytes a label has
     const WIDTH: usize;
 
-    ghost KIND: { Kind };
+    ghost KIND: { ℕ };
 
     ghost WIDTH: { ℕ };
 
@@ -32,7 +31,7 @@ pub trait Label: Ordered {
 
     ghost own: { Own coding };
 
-    ghost numbered: { kind_row KIND ≡ coding.kind };
+    ghost numbered: { KIND ≡ coding.kind };
 
     ghost wide: { WIDTH ≡ coding.width };
 }

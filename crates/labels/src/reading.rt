@@ -13,6 +13,7 @@ pub fn read_label<L: Label>(input: &[u8], place: usize) -> Result<(L, usize), Fa
     ensures trips { RoundTrips L.coding }
 {
     let width = L::WIDTH;
+    // Kept a test: the end of a range, `place + width`, could pass the largest number.
     if input.len().saturating_sub(place) < width {
         return Err(Reader::Label.fault_at(place, Refusal::InputEnds));
     }

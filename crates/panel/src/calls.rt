@@ -48,6 +48,7 @@ impl<'a, L: Ordered> Panel<'a, L> {
         }
     }
 
+    // Kept sums in the calls: a board's ten slots begin at ten times its number, as the definitions say.
     // What the slot at a place holds.
     fn slot(&self, place: usize) -> Option<Slip<L>>
         ensures { result ≡ slice_index_or self.now.slots.now place None }
@@ -99,6 +100,7 @@ impl<'a, L: Ordered> Panel<'a, L> {
     }
 
     // What the board's verdict slot tells.
+    // Kept apart from `verdict`: the promise there is of what this answers.
     fn held_verdict(&self, board: usize) -> Result<Option<L>, Refusal>
         ensures { AnswersWith (refusal (state self.now) (verdict board)) (label_of (at self.now.slots.now board verdict_place)) result }
     {
@@ -127,6 +129,7 @@ impl<'a, L: Ordered> Panel<'a, L> {
     }
 
     // The next phase, where it may run with blocks of these lengths.
+    // Kept three numbers: the lists themselves are lent on afterwards.
     fn admit<E: Exchange<Slip<L>>>(
         &self,
         exchange: &E,
@@ -161,7 +164,7 @@ impl<'a, L: Ordered> Panel<'a, L> {
     // Runs the next phase. The blocks have room for what is heard, n * n slots, for what was heard of
     // the estimates and the earlier picks, 8 * n * n, and for the exchange's workspace. What they
     // hold there afterwards is free; past that they are left as they were.
-    // Kept three parameters: the contract says of each what of it is left as it was.
+    // Kept three lists: callers lend lists of their own, and a struct of them would be made for each call.
     pub fn phase<E: Exchange<Slip<L>>>(
         &mut self,
         exchange: &mut E,

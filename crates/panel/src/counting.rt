@@ -45,7 +45,7 @@ fn times_said<L: Ordered>(row: &[Option<Slip<L>>], label: L) -> usize
 }
 
 // Whether a slip has the greater number, or the same number and the smaller label.
-// Kept in words: as a comparison of pairs it would turn one part round.
+// Kept in words: as a comparison of pairs, one part would have to be turned round.
 fn is_later<L: Ordered>(a: Slip<L>, b: Slip<L>) -> bool
     ensures { result ≡ later L.order a b }
 {
@@ -62,6 +62,7 @@ fn best<L: Ordered, F: Fn(Slip<L>) -> bool, G: Fn(Slip<L>, Slip<L>) -> bool>(
     requires compares { G.IsAlwaysCallable beats }
     ensures { (P : Slip L → Bool) (R : Slip L → Slip L → Bool) → Tells (F.post test) P → Beats (G.post beats) R → result ≡ best R (λ q. only P (row_of row.now q)) (length row.now) }
 {
+    // Kept a loop: as a `reduce` over what passes, the two tests would go through two closures more.
     let mut top: Option<Slip<L>> = None;
     for slot in row {
         let slot = slot.filter(|s| test(*s));

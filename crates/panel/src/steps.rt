@@ -102,7 +102,7 @@ impl<L: Ordered, E: Exchange<Slip<L>>> Run<'_, '_, L, E> {
 
     // What the boards hold at one place is heard plainly, and each board writes another of its places, by
     // what it holds there and by what it heard often enough.
-    // Kept as parameters: the two calls differ in each.
+    // Kept four parameters: the two calls differ in each.
     fn hear_step<F: Fn(Option<Slip<L>>, Option<Slip<L>>) -> Option<Slip<L>>>(
         &mut self,
         slots: &mut [Option<Slip<L>>],

@@ -1,8 +1,6 @@
 // A script in lists of its own.
 use crate::error::ScriptError;
-use crate::storage::{
-    HEARD, MOST_BOARDS, MOST_RECORDS, MOST_SLIPS, NO_RECORD, PICKS, SLOTS, WORKSPACE,
-};
+use crate::storage::{HEARD, MOST_BOARDS, MOST_RECORDS, MOST_SLIPS, PICKS, SLOTS, WORKSPACE};
 use labels::frame_number::FrameNumber;
 use labels::label::Label;
 use labels::slip::Slip;
@@ -14,6 +12,7 @@ use script::writing::write;
 use std::alloc::Global;
 
 // Labels of which one is at hand, for lists to begin with.
+// Kept a trait: a label has no default of its own, and no use for one but here.
 pub(crate) trait Blank: Label {
     fn blank() -> Self;
 }
@@ -55,7 +54,7 @@ impl<L: Blank> Stored<L> {
             phase: 0,
         };
         let mut proposals = vec![in heap; L::blank(); MOST_BOARDS]?;
-        let mut records = vec![in heap; NO_RECORD; MOST_RECORDS]?;
+        let mut records = vec![in heap; Record::default(); MOST_RECORDS]?;
         let mut slips = vec![in heap; empty; MOST_SLIPS]?;
         let (head, count) = read(input, &mut proposals, &mut records, &mut slips)?;
         records.truncate(count);
@@ -98,7 +97,7 @@ impl<L: Blank> Stored<L> {
             &mut work,
             &mut told,
         )?;
-        let bad = head.bad.unwrap_or(0);
+        let bad = head.bad_boards();
         Ok(Ran { bad, phases, told })
     }
 }

@@ -7,6 +7,7 @@ ghost use Rattle.script.specs.Entries.{slip, slip_bytes};
 ghost use Rattle.script.specs.Fields.{byte, pair};
 ghost use Rattle.script.specs.Passes.{Puts};
 
+use crate::model::MOST_BYTES;
 use labels::fault::{Fault, Reader};
 use labels::label::Label;
 use labels::reading::{read_label, write_label};
@@ -22,6 +23,7 @@ pub(crate) fn read_byte(reader: Reader, b: &[u8], p: usize) -> Result<(u8, usize
     Ok((*byte, p + 1))
 }
 
+// Kept beside `read_byte`: a reader of any number of bytes would leave it to each call what they mean.
 pub(crate) fn read_pair(reader: Reader, b: &[u8], p: usize) -> Result<(u16, usize), Fault>
     ensures { answered result ≡ pair reader b.now p }
 {
@@ -43,7 +45,7 @@ pub(crate) fn put_bytes(bytes: &[u8], out: &mut [u8], at: usize) -> Result<usize
     ensures { Puts bytes.now out.old at (answered result) out.new }
 {
     if at > out.len() || out.len() - at < bytes.len() {
-        return Err(Reader::Script.fault_at(60_000, Refusal::ScriptTooLong));
+        return Err(Reader::Script.fault_at(MOST_BYTES, Refusal::ScriptTooLong));
     }
     out[at..at + bytes.len()].copy_from_slice(bytes);
     Ok(at + bytes.len())
@@ -52,7 +54,10 @@ pub(crate) fn put_bytes(bytes: &[u8], out: &mut [u8], at: usize) -> Result<usize
 pub(crate) fn put_label<L: Label>(label: L, out: &mut [u8], at: usize) -> Result<usize, Fault>
     ensures { Puts (L.coding.write label) out.old at (answered result) out.new }
 {
-    write_label(label, out, at).map_err(|_| Reader::Script.fault_at(60_000, Refusal::ScriptTooLong))
+    write_label(label, out, at).map_err(|_| Reader::Script.fault_at(
+        MOST_BYTES,
+        Refusal::ScriptTooLong,
+    ))
 }
 
 pub(crate) fn put_slip<L: Label>(slip: Slip<L>, out: &mut [u8], at: usize) -> Result<usize, Fault>

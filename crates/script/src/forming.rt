@@ -75,7 +75,7 @@ fn put_records<L: Label>(
 pub(crate) fn form<L: Label>(script: Script<L>, out: &mut [u8]) -> Result<usize, Fault>
     ensures { Puts (formed L.coding script.entry.head script.entry.count (lists script.entry.proposals.now script.entry.records.now script.entry.slips.now)) out.old 0 (answered result) out.new }
 {
-    let start = put_header(L::KIND.number(), script.head, out)?;
+    let start = put_header(L::KIND, script.head, out)?;
     let n = usize::from(script.head.boards);
     let there = n.min(script.proposals.len());
     let rest = put_row::<L, Labels>(&script.proposals[..there], out, start)?;

@@ -6,6 +6,7 @@ ghost use Rattle.script.specs.Header.{field, fields, header};
 use crate::fields::read_byte;
 use crate::model::Header;
 use crate::records::is_within;
+use exchanges::fitting::MOST_BOARDS;
 use exchanges::maps::has;
 use labels::fault::{Fault, Reader};
 use labels::refusal::Refusal;
@@ -60,12 +61,13 @@ fn read_fields(n: u8, map: u8, b: &[u8], p: usize) -> Result<(Header, usize), Fa
 pub(crate) fn read_header(kind: u8, b: &[u8], p: usize) -> Result<(Header, usize), Fault>
     ensures { answered result ≡ header kind b.now p }
 {
+    // Kept four tests: with one reader of a byte that passes a test, this function's proof did not close.
     let (edition, p1) = read_byte(Reader::Script, b, p)?;
     if edition != 1 {
         return Err(Reader::Script.fault_at(p, Refusal::FieldOutOfRange));
     }
     let (n, p2) = read_byte(Reader::Script, b, p1)?;
-    if n == 0 || n > 7 {
+    if n == 0 || n > MOST_BOARDS {
         return Err(Reader::Script.fault_at(p1, Refusal::FieldOutOfRange));
     }
     let (k, p3) = read_byte(Reader::Script, b, p2)?;

@@ -5,6 +5,9 @@ ghost use Rattle.script.specs.Runs.{borne, phases_due};
 
 use labels::slip::Slip;
 
+// A script has at most so many bytes.
+pub const MOST_BYTES: usize = 60_000;
+
 // What stands before the proposals; a field that is absent has its default.
 #[derive(Clone, Copy, PartialEq, Eq, Debug)]
 pub struct Header {
@@ -27,7 +30,7 @@ impl Header {
     }
 
     // The map of bad boards.
-    pub(crate) fn bad_boards(self) -> u8
+    pub fn bad_boards(self) -> u8
         ensures { result ≡ bad_map self }
     {
         self.bad.unwrap_or(0)
@@ -42,7 +45,7 @@ impl Header {
 }
 
 // What happens to the slips of one sender in one round: bit q of a map means board q.
-#[derive(Clone, Copy, PartialEq, Eq, Debug)]
+#[derive(Clone, Copy, PartialEq, Eq, Default, Debug)]
 pub struct Record {
     pub round: u16,
     pub sender: u8,

@@ -6,7 +6,7 @@ ghost use Rattle.script.specs.Passes.{surveyed};
 ghost use Rattle.script.specs.Script.{decode};
 
 use crate::heads::read_header;
-use crate::model::{Header, Record};
+use crate::model::{Header, MOST_BYTES, Record};
 use crate::rows::{Labels, fill_row, skip_row};
 use crate::store::fill_entries;
 use crate::survey::Survey;
@@ -20,10 +20,10 @@ use labels::slip::Slip;
 pub(crate) fn survey<L: Label>(input: &[u8]) -> Result<Survey, Fault>
     ensures { answered result ≡ surveyed L.coding input.now }
 {
-    if input.len() > 60_000 {
-        return Err(Reader::Script.fault_at(60_000, Refusal::ScriptTooLong));
+    if input.len() > MOST_BYTES {
+        return Err(Reader::Script.fault_at(MOST_BYTES, Refusal::ScriptTooLong));
     }
-    let (head, start) = read_header(L::KIND.number(), input, 0)?;
+    let (head, start) = read_header(L::KIND, input, 0)?;
     let rest = skip_row::<L, Labels>(usize::from(head.boards), input, start)?;
     let (records, slips) = count_entries::<L>(head, input, rest)?;
     Ok(Survey {

@@ -38,7 +38,7 @@ impl Record {
 }
 
 // Whether a record comes after the one before, and its round is not 0.
-// Kept a test of its own: the order is derived, and round 0 comes before the first record too.
+// Kept a test: by the derived order alone a record of round 0 could come first.
 fn is_later(last: Turn, next: Turn) -> bool
     ensures { result ≡ later last.round last.sender next.round next.sender }
 {

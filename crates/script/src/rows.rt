@@ -73,7 +73,7 @@ pub(crate) fn skip_row<X: Copy, R: Row<X>>(n: usize, b: &[u8], start: usize) -> 
 }
 
 // Values into a list, one for each place of it.
-// Kept beside `skip_row`: a pass that only checks has no list, and its count is of what is read.
+// Kept beside `skip_row`: that pass has a number of values, and no list to fill.
 pub(crate) fn fill_row<X: Copy, R: Row<X>>(
     b: &[u8],
     start: usize,

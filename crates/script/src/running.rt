@@ -79,7 +79,7 @@ fn open_panel<L: Ordered>(
 // verdict of each board stands at the board's place of the list `told`, and the answer is how many
 // phases were run. At the first call that the panel refuses the run ends with this refusal, and the
 // list stays as it was. The slots and the three blocks are free afterwards.
-// Kept three blocks, as the panel takes them.
+// Kept three blocks: the panel takes them so.
 pub fn run<L: Ordered>(
     script: Script<L>,
     slots: &mut [Option<Slip<L>>],

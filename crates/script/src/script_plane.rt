@@ -23,7 +23,7 @@ pub struct ScriptBackplane<'a, I> {
 }
 
 // What the receiver hears under the sender's rule.
-// Kept parameters: a rule, the lists and a carry meet only here.
+// Kept parameters: a rule, the slips, the bad boards and a carry meet only here.
 fn obey<I: Copy>(
     rule: Option<Rule>,
     slips: &[I],
@@ -75,11 +75,8 @@ impl<'a, I: Copy> Backplane<I> for ScriptBackplane<'a, I> {
     }
 
     fn turn(&mut self) -> Result<(), Refusal> {
-        let round = self.rules.round;
-        if round == u16::MAX {
-            return Err(Refusal::RoundLimit);
-        }
-        self.rules.turn_to(round + 1);
+        let next = self.rules.round.checked_add(1);
+        self.rules.turn_to(next.ok_or(Refusal::RoundLimit)?);
         Ok(())
     }
 

@@ -43,8 +43,8 @@ impl<'a> ScriptRules<'a> {
     pub(crate) fn rule(&self, sender: usize) -> Option<Rule>
         ensures { result ≡ first_rule self.now.records.now 0 self.now.round sender }
     {
-        if sender < 8 {
-            return self.table[sender];
+        if let Some(rule) = self.table.get(sender) {
+            return *rule;
         }
         let table = look_up(self.records, self.round, sender);
         table[0]

@@ -1,5 +1,6 @@
 // The second pass over the records: it fills given memory.
-// Kept apart from the first pass: as one walk, a trait would say what each keeps and when it has room, for no less.
+// Kept apart from the first pass: one walk for both would need a trait with what each keeps and the room it
+// needs, and be no shorter.
 ghost use Rattle.std.specs.Prelude.{length};
 ghost use Rattle.labels.specs.Faults.{answered};
 ghost use Rattle.script.specs.Entries.{entries};

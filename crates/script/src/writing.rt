@@ -4,7 +4,7 @@ ghost use Rattle.labels.specs.Faults.{answered};
 ghost use Rattle.script.specs.Memory.{lists, formed, last_checks, writes, written, ReadsBack};
 
 use crate::forming::form;
-use crate::model::Script;
+use crate::model::{MOST_BYTES, Script};
 use crate::reading::survey;
 use labels::fault::{Fault, Reader};
 use labels::label::Label;
@@ -32,7 +32,7 @@ pub fn write<L: Label>(script: Script<L>, output: &mut [u8]) -> Result<usize, Fa
     ensures trip { ReadsBack L.coding }
 {
     // Kept a fixed buffer, as long as the longest script: there is no heap here to grow it on.
-    let mut buffer = [0u8; 60_000];
+    let mut buffer = [0u8; MOST_BYTES];
     let size = form(script, &mut buffer)?;
     let _ = survey::<L>(&buffer[..size])?;
     check_last(script.count, script.records.len(), size, output.len())?;

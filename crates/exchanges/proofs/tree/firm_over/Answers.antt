@@ -1,4 +1,4 @@
-use Rattle.std.proofs.Common.{◌≡◌, ℕ, ◌+◌, ◌*◌, Bool, cond, ◌||◌, ltb, length, None, ◌∙◌, subst}
+use Rattle.std.proofs.Common.{◌≡◌, ℕ, ◌+◌, ◌*◌, Bool, cond, ◌||◌, ltb, length, None, ◌∙◌, subst, rules}
 use Rattle.exchanges.specs.Boards.{fits}
 use Rattle.exchanges.specs.Asked.{short, due}
 use Rattle.exchanges.specs.Trees.{tree_size}
@@ -19,6 +19,7 @@ returns-clause-ran g c =
     let t = c.new.result.t in
     let sh : ℕ → Bool = λ m. short m s h || ltb (length w) (cond (fits m f) (m * tree_size m f) 0) in
     let none = none_due c.boards-boards.result b.boards f c.round.result b.round (c.from.result + 1) sh c.lacks_room-short.result c.boards-boards.ensures c.lacks_room-short.ensures c.round.ensures c.in_ok-size.ensures.0 in
-    let run : Done same b (plane c.run_trees.new.b) s h c.run_trees.new.heard n t = record { plane = c.run_trees.ensures.plane; heard = c.run_trees.ensures.heard } in
-    let done = done_at same b (plane c.run_trees.new.b) s h c.run_trees.new.heard n b.boards t f (c.new.ensures.0 ∙ c.in_ok-size.ensures.1 ∙ c.boards-boards.ensures) (c.new.ensures.1 ∙ c.in_ok-size.ensures.2) run in
-    (subst (λ (k : ℕ). due b.boards f (sh b.boards) b.round (k + 1) ≡ None) c.from.ensures none, done.plane, done.heard)
+    let run : Done same b (plane c.run.new.self.plane.now) s h c.run.new.heard n t = record { plane = c.run.ensures.plane; heard = c.run.ensures.heard } in
+    let done = done_at same b (plane c.run.new.self.plane.now) s h c.run.new.heard n b.boards t f (c.new.ensures.0 ∙ c.in_ok-size.ensures.1 ∙ c.boards-boards.ensures) (c.new.ensures.1 ∙ c.in_ok-size.ensures.2) run in
+    let plane_is = done.plane in
+    (subst (λ (k : ℕ). due b.boards f (sh b.boards) b.round (k + 1) ≡ None) c.from.ensures none, search rules, done.heard)

@@ -1,6 +1,0 @@
-use Rattle.std.proofs.Common.{◌≡◌, fold}
-use Rattle.exchanges.specs.Slots.{trail, settle, spots_on}
-use Rattle.exchanges.proofs.votes.reduce_on.Given as goal
-
-abbrev pub invariant-loop-p : goal.invariant-loop-p
-invariant-loop-p g l = l.ws ≡ fold (settle g.I.Item.same l.path.shape.n l.path.shape.t l.path.shape.size) l.initial.ws (spots_on l.p (trail l.path.boards l.path.len))
