@@ -104,6 +104,7 @@ impl<'a, L: Ordered> Panel<'a, L> {
     fn held_verdict(&self, board: usize) -> Result<Option<L>, Refusal>
         ensures { AnswersWith (refusal (state self.now) (verdict board)) (label_of (at self.now.slots.now board verdict_place)) result }
     {
+        // Kept two tests, as in `propose`: each call answers the first of its own table that holds.
         let size = self.size.ok_or(Refusal::NotFitted)?;
         if board >= size.n() {
             return Err(Refusal::NoSuchBoard);

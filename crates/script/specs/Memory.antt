@@ -7,6 +7,7 @@ use Rattle.labels.specs.declared.fault.Reader.TheVariants.{Record as InRecord, S
 use Rattle.labels.specs.declared.slip.Slip.{Slip}
 use Rattle.script.specs.declared.model.Header.{Header}
 use Rattle.script.specs.declared.model.Record.{Record}
+use Rattle.script.specs.declared.model.Script.{Script as Lent}
 use Rattle.script.specs.Readers.{bind}
 use Rattle.script.specs.Entries.{Entry}
 use Rattle.script.specs.Script.{Script, encode, decode}
@@ -19,6 +20,10 @@ pub record Lists (L : Type 0) : Type 0 where
 
 abbrev pub lists : {L : Type 0} → List L → List Record → List (Slip L) → Lists L
 lists ps rs ss = record { proposals = ps; records = rs; slips = ss }
+
+-- the lists that a script in memory is lent
+abbrev pub lists_of : {L : Type 0} → Lent L → Lists L
+lists_of s = lists s.proposals.now s.records.now s.slips.now
 
 -- each record with a slip for each bit of its forged map, to the first record whose slips are not all there
 abbrev pub with_slips : {L : Type 0} → List Record → List (Slip L) → List (Entry L)

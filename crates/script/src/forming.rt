@@ -4,7 +4,7 @@ ghost use Rattle.labels.specs.Faults.{answered};
 ghost use Rattle.script.specs.Entries.{fixed_bytes, entry_bytes};
 ghost use Rattle.script.specs.Fields.{joined};
 ghost use Rattle.script.specs.Header.{header_map, header_bytes, listed};
-ghost use Rattle.script.specs.Memory.{lists, with_slips, formed};
+ghost use Rattle.script.specs.Memory.{lists_of, with_slips, formed};
 ghost use Rattle.script.specs.Passes.{Puts};
 
 use crate::fields::put_bytes;
@@ -73,7 +73,7 @@ fn put_records<L: Label>(
 // The bytes of the script in memory, to where a list ends too soon; answers how many there are, or
 // that they pass the end of the buffer.
 pub(crate) fn form<L: Label>(script: Script<L>, out: &mut [u8]) -> Result<usize, Fault>
-    ensures { Puts (formed L.coding script.entry.head script.entry.count (lists script.entry.proposals.now script.entry.records.now script.entry.slips.now)) out.old 0 (answered result) out.new }
+    ensures { Puts (formed L.coding script.entry.head script.entry.count (lists_of script.entry)) out.old 0 (answered result) out.new }
 {
     let start = put_header(L::KIND, script.head, out)?;
     let n = usize::from(script.head.boards);

@@ -4,7 +4,7 @@ ghost use Rattle.labels.specs.Faults.{answered};
 ghost use Rattle.script.specs.Header.{field, fields, header};
 
 use crate::fields::read_byte;
-use crate::model::Header;
+use crate::model::{Header, PHASES_DEFAULT, faults_default};
 use crate::records::is_within;
 use exchanges::fitting::MOST_BOARDS;
 use exchanges::maps::has;
@@ -40,13 +40,13 @@ fn read_fields(n: u8, map: u8, b: &[u8], p: usize) -> Result<(Header, usize), Fa
 {
     let (faults, q) = read_field(
         has(map, 0),
-        n.saturating_sub(1) / 3,
+        faults_default(n),
         |t| u16::from(t) * 3 < u16::from(n),
         b,
         p,
     )?;
     let (bad, r) = read_field(has(map, 1), 0, |bad| is_within(bad, n), b, q)?;
-    let (phases, s) = read_field(has(map, 2), 8, |k| k > 0 && k <= 8, b, r)?;
+    let (phases, s) = read_field(has(map, 2), PHASES_DEFAULT, |k| k > 0 && k <= 8, b, r)?;
     Ok((
         Header {
             boards: n,

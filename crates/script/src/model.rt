@@ -1,6 +1,6 @@
 // A script as it lies in memory: a header, and entries of three lists.
 ghost use Rattle.std.specs.Prelude.{◌≡◌};
-ghost use Rattle.script.specs.Header.{bad_map};
+ghost use Rattle.script.specs.Header.{bad_map, faults_default};
 ghost use Rattle.script.specs.Runs.{borne, phases_due};
 
 use labels::slip::Slip;
@@ -21,12 +21,22 @@ pub struct Header {
     pub phases: Option<u8>,
 }
 
+// How many of so many boards may be bad, where the header does not say it.
+pub(crate) fn faults_default(boards: u8) -> u8
+    ensures { result ≡ faults_default boards }
+{
+    boards.saturating_sub(1) / 3
+}
+
+// How many phases are run, where the header does not say it.
+pub(crate) const PHASES_DEFAULT: u8 = 8;
+
 impl Header {
     // How many boards may be bad.
     pub(crate) fn faults_borne(self) -> u8
         ensures { result ≡ borne self }
     {
-        self.faults.unwrap_or(self.boards.saturating_sub(1) / 3)
+        self.faults.unwrap_or(faults_default(self.boards))
     }
 
     // The map of bad boards.
@@ -40,7 +50,7 @@ impl Header {
     pub(crate) fn phases_due(self) -> u8
         ensures { result ≡ phases_due self }
     {
-        self.phases.unwrap_or(8)
+        self.phases.unwrap_or(PHASES_DEFAULT)
     }
 }
 

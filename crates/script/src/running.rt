@@ -3,7 +3,7 @@ ghost use Rattle.std.specs.Prelude.{◌≡◌, ◌<◌, ◌≤◌, length};
 ghost use Rattle.panel.specs.Slots.{label_of};
 ghost use Rattle.panel.specs.Panel.{at, sizes, verdict_place};
 ghost use Rattle.panel.specs.Modelled.{state};
-ghost use Rattle.script.specs.Memory.{lists};
+ghost use Rattle.script.specs.Memory.{lists_of};
 ghost use Rattle.script.specs.Runs.{phases_due, opening, proposing, phases, history, verdicts, Ran, Went};
 
 use crate::model::{Header, Script};
@@ -88,7 +88,7 @@ pub fn run<L: Ordered>(
     work: &mut [Option<Slip<L>>],
     told: &mut [Option<L>],
 ) -> Result<u8, Refusal>
-    ensures { Ran L.order slots.old (history L.order slots.old (sizes (length heard.old) (length picks.old) (length work.old)) script.entry.head script.entry.count (lists script.entry.proposals.now script.entry.records.now script.entry.slips.now)) script.entry.head.boards (phases_due script.entry.head) told.old told.new result }
+    ensures { Ran L.order slots.old (history L.order slots.old (sizes (length heard.old) (length picks.old) (length work.old)) script.entry.head script.entry.count (lists_of script.entry)) script.entry.head.boards (phases_due script.entry.head) told.old told.new result }
 {
     let head = script.head;
     let n = usize::from(head.boards);

@@ -1,7 +1,7 @@
 // The script writer: it forms the bytes, reads them, and only then puts them out.
 ghost use Rattle.std.specs.Prelude.{◌≡◌, length};
 ghost use Rattle.labels.specs.Faults.{answered};
-ghost use Rattle.script.specs.Memory.{lists, formed, last_checks, writes, written, ReadsBack};
+ghost use Rattle.script.specs.Memory.{lists_of, formed, last_checks, writes, written, ReadsBack};
 
 use crate::forming::form;
 use crate::model::{MOST_BYTES, Script};
@@ -27,8 +27,8 @@ fn check_last(count: usize, there: usize, bytes: usize, size: usize) -> Result<(
 // refuse is refused by the same fault; bytes past those written, and all of them on a refusal, stay
 // as they are. Reading what was written restores the script.
 pub fn write<L: Label>(script: Script<L>, output: &mut [u8]) -> Result<usize, Fault>
-    ensures value { answered result ≡ writes L.coding script.entry.head script.entry.count (lists script.entry.proposals.now script.entry.records.now script.entry.slips.now) (length output.old) }
-    ensures after { output.new ≡ written (answered result) (formed L.coding script.entry.head script.entry.count (lists script.entry.proposals.now script.entry.records.now script.entry.slips.now)) output.old }
+    ensures value { answered result ≡ writes L.coding script.entry.head script.entry.count (lists_of script.entry) (length output.old) }
+    ensures after { output.new ≡ written (answered result) (formed L.coding script.entry.head script.entry.count (lists_of script.entry)) output.old }
     ensures trip { ReadsBack L.coding }
 {
     // Kept a fixed buffer, as long as the longest script: there is no heap here to grow it on.
