@@ -46,27 +46,47 @@ def functions(lines):
         i = end + 1
 
 
-SPELT = [
-    # a match on an Option or a Result whose arms spell out one of its methods
-    re.compile(r"^\s*None => (None|false|0|\d+|Ok\(None\)|Ok\(\w+\)|head\.\S+|Err\(.*\)),$"),
-    re.compile(r"^\s*Err\(_\) => .*,$"),
-    re.compile(r"^\s*Err\(fault\) => (return )?Ok\(Err\(fault\)\),$"),
-    re.compile(r"^\s*(None|_) => None,$"),
+# what a line says, by point
+LINES = {
+    1: re.compile(
+        r"Result<Result<|-> Option<Refusal>|fn kind_number|const KIND: u8;|[=!]= <\w+ as Label>::"
+        r"|fn .*&mut .*-> bool$"
+        # a match on an Option or a Result whose arms spell out one of its methods
+        r"|^\s*None => (None|false|\d+|Ok\(None\)|Ok\(\w+\)|head\.\S+|Err\(.*\)),$"
+        r"|^\s*Err\(_\) => .*,$|^\s*Err\(fault\) => (return )?Ok\(Err\(fault\)\),$|^\s*_ => None,$"
+    ),
+    4: re.compile(
+        r"fn (compare|is_below|is_equal|is_same|by_number|same_slots|is_later|digit)\b"
+        r"|(?<!self)(?<!Kind::Frames)(?<!Kind::Stamps) as (usize|u8|u16|u32)\b"
+        r"|/ 10_000_000|\.wrapping_mul\(16\)"
+    ),
+    6: re.compile(
+        r"^\s*(pub )?(pub\(crate\) )?len: usize,|\bcount: usize,$|= \[.*; [0-9A-Z_]+\];"
+        r"|start >= items\.len|: \[Option<Rule>; 8\],"
+    ),
+    7: re.compile(r"match vote|if more == 0|match stamp_named"),
+}
+
+# what a line and the next say: an early return that spells out a method or a `?`
+PAIRS = [
+    (re.compile(r"\s*let (Some|Ok)\(.*\) = .* else \{$"), re.compile(r"\s*return (None|Some\(\w+\));$")),
+    (re.compile(r"\s*if let Some\((\w+)\) = .*\{$"), re.compile(r"\s*return Err\(")),
 ]
 
 
-def point1(name, lines, out):
+def by_line(name, lines, out):
+    """The places of points 1, 4, 6 and 7."""
     for k, line in enumerate(lines):
-        if re.search(r"Result<Result<|-> Option<Refusal>|fn kind_number|const KIND: u8;|== <\w+ as Label>::|!= <\w+ as Label>::", line):
-            out.append((1, name, k, line.strip()))
-        elif any(p.match(line) for p in SPELT):
-            out.append((1, name, k, line.strip()))
-        elif re.match(r"\s*let (Some|Ok)\(.*\) = .* else \{$", line) and re.match(r"\s*return (None|Some\(\w+\));$", lines[k + 1]):
-            out.append((1, name, k, line.strip()))
-        elif re.match(r"\s*if let Some\((\w+)\) = .*\{$", line) and re.match(r"\s*return Err\(", lines[k + 1]):
-            out.append((1, name, k, line.strip()))
-        elif re.search(r"fn .*&mut .*-> bool$", line):
-            out.append((1, name, k, line.strip()))
+        found = {point for point, said in LINES.items() if said.search(line)}
+        if any(one.match(line) and then.match(lines[k + 1]) for one, then in PAIRS):
+            found.add(1)
+        # the library of scripts has no heap of its own
+        if name.startswith("crates/script/") and re.search(r": (mut )?Vec<", line):
+            found.add(6)
+        # tests may lay out their lists as they like
+        if "_tests/" in name:
+            found.discard(6)
+        out.extend((point, name, k, line.strip()) for point in sorted(found))
 
 
 def point3(name, lines, out):
@@ -86,33 +106,6 @@ def point3(name, lines, out):
         finds = rf"\[[^\]]*\b{v}\b|\b(?:get|slot|slot_at|put_slot|answer|heard|sent|level|place)\([^;]*\b{v}\b"
         if re.search(finds, body) or (v.startswith("_") and re.search(r"\.push\(|break;", body)):
             out.append((3, name, k, line.strip()))
-
-
-def point4(name, lines, out):
-    for k, line in enumerate(lines):
-        if re.search(r"fn (compare|is_below|is_equal|is_same|by_number|same_slots|is_later|digit)\b", line):
-            out.append((4, name, k, line.strip()))
-        elif re.search(r"(?<!self)(?<!Kind::Frames)(?<!Kind::Stamps) as (usize|u8|u16|u32)\b", line):
-            out.append((4, name, k, line.strip()))
-        elif re.search(r"/ 10_000_000|\.wrapping_mul\(16\)", line):
-            out.append((4, name, k, line.strip()))
-
-
-def point6(name, lines, out):
-    if "_tests/" in name:
-        return
-    # the library of scripts has no heap of its own
-    if name.startswith("crates/script/"):
-        out.extend((6, name, k, line.strip()) for k, line in enumerate(lines) if re.search(r": (mut )?Vec<", line))
-    for k, line in enumerate(lines):
-        if re.search(r"^\s*(pub )?(pub\(crate\) )?len: usize,|\bcount: usize,$|= \[.*; [0-9A-Z_]+\];|start >= items\.len|: \[Option<Rule>; 8\],", line):
-            out.append((6, name, k, line.strip()))
-
-
-def point7(name, lines, out):
-    for k, line in enumerate(lines):
-        if re.search(r"match vote|if more == 0|match stamp_named", line):
-            out.append((7, name, k, line.strip()))
 
 
 def point5(texts, out):
@@ -165,8 +158,8 @@ def main():
     texts = [(name, code(lines)) for name, lines in raw]
     out = []
     for name, lines in texts:
-        for point in (point1, point3, point4, point6, point7):
-            point(name, lines, out)
+        by_line(name, lines, out)
+        point3(name, lines, out)
     point2(texts, out)
     point5(texts, out)
     of = dict(raw)
