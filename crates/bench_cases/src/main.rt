@@ -12,31 +12,62 @@ use std::io::Read;
 const MOST: u64 = 1_000_000;
 
 // What a hex digit stands for; a capital is none.
-// Kept a function: `to_digit` takes capitals too, which here are skipped like all that is no digit.
-fn digit(byte: &u8) -> Option<u8> {
-    if byte.is_ascii_uppercase() {
-        return None;
+// Kept by hand: `to_digit` takes capitals too, which here are skipped like all that is no digit.
+fn digit(byte: u8) -> Option<u8> {
+    match byte {
+        b'0'..=b'9' => Some(byte - b'0'),
+        b'a'..=b'f' => Some(byte - b'a' + 10),
+        _ => None,
     }
-    let value = char::from(*byte).to_digit(16)?;
-    u8::try_from(value).ok()
 }
 
-// The bytes that a text has in hex, two digits for each; all but digits is skipped.
-fn bytes_of(heap: Global, text: &[u8]) -> Result<Vec<u8>, AllocError> {
-    let digits: Vec<u8> = text.iter().filter_map(digit).collect(heap)?;
-    let (pairs, _) = digits.as_chunks::<2>();
-    pairs
-        .iter()
-        .map(|[high, low]| *high << 4 | *low)
-        .collect(heap)
+// A line as far as it was read: the script that it has in hex, two digits for each byte, the first
+// digit of a byte of which the second is still to come, and whether a comment has begun.
+#[derive(Drop)]
+struct Line {
+    script: Vec<u8>,
+    high: Option<u8>,
+    comment: bool,
 }
 
-// The script of a line; None where the line has a comment alone.
-fn script_of(heap: Global, line: &[u8]) -> Result<Option<Vec<u8>>, AllocError> {
-    let mut parts = line.split(|byte| *byte == b'#');
-    let script = bytes_of(heap, parts.next().unwrap_or(&[]))?;
-    let comment = parts.next().is_some();
-    Ok(Some(script).filter(|bytes| !comment || !bytes.is_empty()))
+impl Line {
+    fn new(heap: Global) -> Line {
+        Line {
+            script: Vec::new(heap),
+            high: None,
+            comment: false,
+        }
+    }
+
+    // One more byte of the line; all but digits is skipped, and so is a comment.
+    fn take(&mut self, byte: u8) -> Result<(), AllocError> {
+        if byte == b'#' {
+            self.comment = true;
+        } else if !self.comment {
+            if let Some(low) = digit(byte) {
+                match self.high.take() {
+                    Some(high) => self.script.push(high << 4 | low)?,
+                    None => self.high = Some(low),
+                }
+            }
+        }
+        Ok(())
+    }
+
+    // The script of the line; None where the line has a comment alone.
+    fn script(&self) -> Option<&[u8]> {
+        if self.comment && self.script.is_empty() {
+            return None;
+        }
+        Some(self.script.as_slice())
+    }
+
+    // The next line begins.
+    fn clear(&mut self) {
+        self.script.clear();
+        self.high = None;
+        self.comment = false;
+    }
 }
 
 // What writing the script to an output of so many bytes comes to.
@@ -60,15 +91,20 @@ fn show_line(rt: &HostRuntime, number: usize, script: &[u8]) -> anyhow::Result<(
 fn main(rt: HostRuntime) -> anyhow::Result<()> {
     let mut input = Vec::new(rt.alloc());
     rt.stdin().take(MOST).read_to_end(&mut input)?;
-    let lines = input.split_inclusive(|byte| *byte == b'\n');
-    for (line, number) in lines.zip(1usize..) {
-        // A last line that has no end is left unread.
-        let Some((b'\n', line)) = line.split_last() else {
-            break;
-        };
-        if let Some(script) = script_of(rt.alloc(), line)? {
-            show_line(&rt, number, &script)?;
+    let mut line = Line::new(rt.alloc());
+    let mut number = 1usize;
+    // Kept a byte at a time: cut into lines and then into digits, an input of comments took twice the
+    // instructions. A last line that has no end is left unread.
+    for byte in &input {
+        if *byte != b'\n' {
+            line.take(*byte)?;
+            continue;
         }
+        if let Some(script) = line.script() {
+            show_line(&rt, number, script)?;
+        }
+        line.clear();
+        number = number.saturating_add(1);
     }
     println!(rt; "a byte too many")?;
     show_script(&rt, &vec![in rt.alloc(); 0u8; 60_001]?)

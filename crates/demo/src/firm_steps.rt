@@ -4,6 +4,7 @@ use crate::traced::Traced;
 use exchanges::exchange::Exchange;
 use exchanges::tree::Tree;
 use exchanges::two_faced::TwoFaced;
+use labels::item::Item;
 use labels::label::Label;
 use labels::slip::Slip;
 use std::fmt::Display;
@@ -52,10 +53,19 @@ fn show_heard<L: Copy + Display>(
     })
 }
 
-// Whether boards 0, 1 and 2, which are sound, heard the same from every board.
-fn heard_alike<I: Eq>(heard: &[Option<I>]) -> bool {
-    let first = heard.chunks(BOARDS).next();
-    heard.chunks(BOARDS).take(3).all(|row| Some(row) == first)
+// Whether two slots hold the same, or are both silent.
+// Kept in words: an item owes no `==`.
+fn same_slots<I: Item>(a: Option<I>, b: Option<I>) -> bool {
+    match (a, b) {
+        (Some(x), Some(y)) => x.is_same(y),
+        (a, b) => a.is_none() && b.is_none(),
+    }
+}
+
+// Whether boards 0, 1 and 2, which are sound, heard the same from every board: board 0's row begins
+// what was heard.
+fn heard_alike<I: Item>(heard: &[Option<I>]) -> bool {
+    heard.chunks(BOARDS).take(3).all(|row| row.iter().zip(heard).all(|(a, b)| same_slots(*a, *b)))
 }
 
 // Runs the exchange where four boards propose, and prints each step.

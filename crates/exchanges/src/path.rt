@@ -156,7 +156,12 @@ impl Path {
             shape: self.shape,
             boards: self.boards,
             len,
-            index: self.index / (self.shape.n - len),
+            // the empty path is the first of its length, so no division is due
+            index: if len == 0 {
+                0
+            } else {
+                self.index / (self.shape.n - len)
+            },
         };
         (rest, usize::from(self.boards[len]))
     }

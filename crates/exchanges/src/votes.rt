@@ -12,7 +12,7 @@ use labels::item::Item;
 fn holds_item<I: Item>(slot: Option<I>, x: I) -> bool
     ensures { result ≡ holds I.same x slot }
 {
-    slot.is_some_and(|y| x == y)
+    slot.is_some_and(|y| x.is_same(y))
 }
 
 // How many slots hold the item.

@@ -1,8 +1,8 @@
 -- A total order, by its comparison.
-use Rattle.std.specs.Prelude.{◌≡◌, ℕ, ◌<◌, Bool, true, false, List, length, Some, None, Option, ◌≢◌, slice_index_or}
+use Rattle.std.specs.Prelude.{◌≡◌, ℕ, ◌<◌, List, length, Some, None, Option, ◌≢◌, slice_index_or}
 use Rattle.std.specs.declared.cmp.Ordering.TheVariants.{Less, Equal}
 use Rattle.std.specs.declared.cmp.Ordering.{Ordering}
-use Rattle.std.specs.Ordering.{is_lt, ordering_reverse}
+use Rattle.std.specs.Ordering.{ordering_reverse}
 
 -- Of any two values exactly one holds, smaller, the same or larger: the comparison has one answer, which is
 -- Equal just where both are the same, and Greater just where the second is smaller. Smaller is transitive.
@@ -19,13 +19,3 @@ SmallestAt {L} order xs (Some k) =
     (k < length xs)
     × ((j : ℕ) (d : L) → j < k → order (slice_index_or xs k d) (slice_index_or xs j d) ≡ Less)
     × ((j : ℕ) (d : L) → k < j → j < length xs → order (slice_index_or xs j d) (slice_index_or xs k d) ≢ Less)
-
--- a label of the list below which none of it is; none of an empty list
-abbrev pub LeastOf : {L : Type 0} → (L → L → Ordering) → List L → Option L → Type 0
-LeastOf cmp xs None = length xs ≡ 0
-LeastOf cmp xs (Some m) = ((k : ℕ) × (k < length xs) × (slice_index_or xs k m ≡ m)) × ((k : ℕ) → k < length xs → is_lt (cmp (slice_index_or xs k m) m) ≡ false)
-
--- the first place of the list with what is equal to x
-abbrev pub FirstAt : {L : Type 0} → (L → L → Bool) → List L → L → Option ℕ → Type 0
-FirstAt eq xs x None = (k : ℕ) → k < length xs → eq (slice_index_or xs k x) x ≡ false
-FirstAt eq xs x (Some i) = (i < length xs) × (eq (slice_index_or xs i x) x ≡ true) × ((k : ℕ) → k < i → eq (slice_index_or xs k x) x ≡ false)

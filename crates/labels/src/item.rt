@@ -2,12 +2,14 @@
 ghost use Rattle.std.specs.Prelude.{◌≡◌, Bool};
 ghost use Rattle.labels.specs.Item.{Tells};
 
-// Items that are the same just where `==` says so.
-pub trait Item: Copy + Eq {
+// Items of which it can be told whether they are the same.
+pub trait Item: Copy {
     // whether two items are the same
     ghost same: { Self → Self → Bool };
 
-    ghost tells: { Tells same };
+    // Kept a method, and no bound `Eq`: what `==` takes for equal need not be the same.
+    fn is_same(self, other: Self) -> bool
+        ensures { result ≡ same self other };
 
-    ghost compares: { (x y : Self) → Self.eq x y ≡ same x y };
+    ghost tells: { Tells same };
 }

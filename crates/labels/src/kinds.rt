@@ -2,7 +2,7 @@
 ghost use Rattle.std.specs.Prelude.{◌≡◌, ◌+◌, ◌≤◌, ◌++◌, length, Some, refl};
 ghost use Rattle.labels.specs.Bytes.{four_bytes, laid};
 ghost use Rattle.labels.specs.Kinds.{frame_order, stamp_order, frame_coding, stamp_coding, frame_text, stamp_text, number_at};
-ghost use Rattle.labels.specs.Orders.{frame_total, frame_compares, stamp_total, stamp_compares};
+ghost use Rattle.labels.specs.Orders.{frame_total, stamp_total};
 ghost use Rattle.labels.specs.Codings.{frame_own, stamp_own};
 
 use crate::frame_number::FrameNumber;
@@ -10,6 +10,7 @@ use crate::kind::Kind;
 use crate::label::Label;
 use crate::order::Ordered;
 use crate::trigger_stamp::TriggerStamp;
+use std::cmp::Ordering;
 use std::fmt;
 
 // The number in the four bytes from a place on.
@@ -34,7 +35,10 @@ impl Ordered for FrameNumber {
 
     ghost total = { frame_total };
 
-    ghost compares = { frame_compares };
+    // Kept a method: `Ordered` asks for no `Ord`; the comparison is the derived one.
+    fn compare(self, other: FrameNumber) -> Ordering {
+        self.cmp(&other)
+    }
 }
 
 impl Label for FrameNumber {
@@ -75,7 +79,11 @@ impl Ordered for TriggerStamp {
 
     ghost total = { stamp_total };
 
-    ghost compares = { stamp_compares };
+    // By seconds, and then by ticks, as the fields stand.
+    // Kept as for frame numbers.
+    fn compare(self, other: TriggerStamp) -> Ordering {
+        self.cmp(&other)
+    }
 }
 
 impl Label for TriggerStamp {

@@ -1,10 +1,13 @@
 // Edges of the two kinds: the smallest and the largest label, the last tick, an input that is one byte short;
-// and the kinds by their numbers.
+// the kinds by their numbers; and a kind whose order is not that of its `Ord`.
+use crate::ranked::Rank;
 use labels::fault::{Fault, Reader};
 use labels::frame_number::FrameNumber;
 use labels::kind::{Kind, UnknownKind};
+use labels::order::Ordered;
 use labels::reading::{read_label, write_label};
 use labels::refusal::Refusal;
+use labels::smallest::smallest;
 use labels::trigger_stamp::TriggerStamp;
 use std::test::Fail;
 
@@ -115,6 +118,15 @@ fn kinds_by_number(rt: HostRuntime) {
     for kind in [Kind::Frames, Kind::Stamps] {
         assert_eq!(rt; Kind::try_from(kind.number()), Ok(kind));
     }
+}
+
+#[test]
+fn an_order_apart_from_ord(rt: HostRuntime) {
+    let [low, high, mid] = [3, 7, 5].map(|number| Rank { number });
+    assert!(rt; low < high);
+    assert!(rt; high.is_below(low));
+    assert!(rt; !high.is_equal(low));
+    assert_eq!(rt; smallest(&[low, high, mid, high]), Some(1));
 }
 
 #[test]

@@ -28,11 +28,12 @@ fn times_heard<L: Ordered>(row: &[Option<Slip<L>>], label: L, phase: u8) -> usiz
         row,
         |s|
             ensures { result ≡ is_slip L.order label phase (Some s) }
-        { label == s.label && s.phase == phase },
+        { label.is_equal(s.label) && s.phase == phase },
     )
 }
 
 // How many slips in a row have this label.
+// Kept beside `times_heard`: the two tests differ, and all else is `votes`.
 fn times_said<L: Ordered>(row: &[Option<Slip<L>>], label: L) -> usize
     ensures { result ≡ times L.order (length row.now) (row_of row.now) label }
 {
@@ -40,7 +41,7 @@ fn times_said<L: Ordered>(row: &[Option<Slip<L>>], label: L) -> usize
         row,
         |s|
             ensures { result ≡ has_label L.order label (Some s) }
-        { label == s.label },
+        { label.is_equal(s.label) },
     )
 }
 
@@ -49,7 +50,7 @@ fn times_said<L: Ordered>(row: &[Option<Slip<L>>], label: L) -> usize
 fn is_later<L: Ordered>(a: Slip<L>, b: Slip<L>) -> bool
     ensures { result ≡ later L.order a b }
 {
-    b.phase < a.phase || (b.phase == a.phase && a.label < b.label)
+    b.phase < a.phase || (b.phase == a.phase && a.label.is_below(b.label))
 }
 
 // The best in a row of the slips that pass a test, by which of two beats the other.
@@ -77,7 +78,7 @@ fn is_oftener<L: Ordered>(row: &[Option<Slip<L>>], a: Slip<L>, b: Slip<L>) -> bo
 {
     let x = times_said(row, a.label);
     let y = times_said(row, b.label);
-    y < x || (y == x && a.label < b.label)
+    y < x || (y == x && a.label.is_below(b.label))
 }
 
 // A claim of the label heard most often.
@@ -119,7 +120,7 @@ impl<'a, L: Ordered> Heard<'a, L> {
             claims,
             |r|
                 ensures { result ≡ supports L.order s.label s.phase (Some r) }
-            { s.label == r.label || r.phase < s.phase },
+            { s.label.is_equal(r.label) || r.phase < s.phase },
         );
         self.size.n() - self.size.t() <= backers
     }

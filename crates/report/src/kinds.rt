@@ -1,4 +1,6 @@
 // A script in bytes, by the kind of its labels.
+ghost use Rattle.report.specs.Unrun.{NotRefused};
+
 use crate::error::ScriptError;
 use crate::results::show;
 use crate::trips::written_back;
@@ -30,7 +32,9 @@ pub fn show_script(rt: &HostRuntime, input: &[u8]) -> anyhow::Result<()> {
 // Whether the script in the bytes, written to an output of so many bytes, is the same again; or the
 // fault of reading or writing it.
 // Kept beside `show_script`: what a kind chooses is a type, over which no closure is generic.
-pub fn restored(heap: Global, input: &[u8], size: usize) -> Result<bool, ScriptError> {
+pub fn restored(heap: Global, input: &[u8], size: usize) -> Result<bool, ScriptError>
+    ensures { NotRefused result }
+{
     match kind_named(input) {
         Kind::Frames => written_back::<FrameNumber>(heap, input, size),
         Kind::Stamps => written_back::<TriggerStamp>(heap, input, size),

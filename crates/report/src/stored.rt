@@ -1,4 +1,6 @@
 // A script in lists of its own.
+ghost use Rattle.report.specs.Unrun.{NotRefused};
+
 use crate::error::ScriptError;
 use crate::storage::{HEARD, MOST_BOARDS, MOST_RECORDS, MOST_SLIPS, PICKS, SLOTS, WORKSPACE};
 use labels::frame_number::FrameNumber;
@@ -48,7 +50,9 @@ pub(crate) struct Ran<L> {
 
 impl<L: Blank> Stored<L> {
     // The script in the bytes.
-    pub(crate) fn read(heap: Global, input: &[u8]) -> Result<Self, ScriptError> {
+    pub(crate) fn read(heap: Global, input: &[u8]) -> Result<Self, ScriptError>
+        ensures { NotRefused result }
+    {
         let empty = Slip {
             label: L::blank(),
             phase: 0,
@@ -77,7 +81,9 @@ impl<L: Blank> Stored<L> {
     }
 
     // Writes the script's bytes, and answers how many there are.
-    pub(crate) fn write(&self, output: &mut [u8]) -> Result<usize, ScriptError> {
+    pub(crate) fn write(&self, output: &mut [u8]) -> Result<usize, ScriptError>
+        ensures { NotRefused result }
+    {
         Ok(write(self.script(), output)?)
     }
 

@@ -1,4 +1,6 @@
 // A script read and written again.
+ghost use Rattle.report.specs.Unrun.{NotRefused};
+
 use crate::error::ScriptError;
 use crate::stored::{Blank, Stored};
 use std::alloc::Global;
@@ -9,7 +11,9 @@ pub(crate) fn written_back<L: Blank>(
     heap: Global,
     input: &[u8],
     size: usize,
-) -> Result<bool, ScriptError> {
+) -> Result<bool, ScriptError>
+    ensures { NotRefused result }
+{
     let mut output = vec![in heap; 0u8; size]?;
     let script: Stored<L> = Stored::read(heap, input)?;
     script.write(&mut output)?;

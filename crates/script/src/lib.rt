@@ -4,6 +4,7 @@
 mod fields;
 mod forming;
 mod heads;
+pub mod lists;
 pub mod model;
 pub mod reading;
 mod records;

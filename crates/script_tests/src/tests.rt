@@ -1,11 +1,16 @@
 // The example of docs/script-format.md, the faults that the page lists, and lists that end too soon.
+// Then a script's backplane over lists that it was handed, and over lists that it was lent.
+use exchanges::backplane::Backplane;
 use labels::fault::{Fault, Reader};
 use labels::frame_number::FrameNumber;
 use labels::refusal::Refusal;
 use labels::slip::Slip;
 use script::model::{Header, Record, Script};
 use script::reading::read;
+use script::script_plane::ScriptBackplane;
 use script::writing::write;
+use std::alloc::{AllocError, Global};
+use std::process::Abort;
 use std::test::Fail;
 
 const EXAMPLE: [u8; 32] = [
@@ -172,4 +177,55 @@ fn lists_that_end_too_soon(rt: HostRuntime) {
         refused(Refusal::OutputTooShort, 31, Reader::Script)
     );
     assert_eq!(rt; out, [0u8; 31]);
+}
+
+// The record past the count says nothing.
+const UNCOUNTED: Record = Record {
+    round: 1,
+    sender: 0,
+    lost: 14,
+    forged: 0,
+};
+
+// What four boards hear of board 3, which is bad, and of board 0, under the record of the example alone.
+fn answers_as_the_example(
+    rt: &impl Abort,
+    mut plane: ScriptBackplane<'_, u8>,
+) -> Result<(), Refusal> {
+    assert_eq!(rt; plane.carry(3, 0, Some(9)), Some(9));
+    plane.turn()?;
+    assert_eq!(rt; (plane.boards(), plane.round()), (4, 1));
+    assert_eq!(rt; plane.carry(3, 0, Some(9)), None);
+    assert_eq!(rt; plane.carry(3, 1, Some(9)), None);
+    assert_eq!(rt; plane.carry(3, 2, Some(9)), Some(6));
+    assert_eq!(rt; plane.carry(3, 3, Some(9)), Some(9));
+    assert_eq!(rt; plane.carry(0, 1, Some(9)), Some(9));
+    assert_eq!(rt; plane.carry(3, 4, Some(9)), None);
+    plane.turn()?;
+    assert_eq!(rt; plane.carry(3, 2, Some(9)), Some(9));
+    Ok(())
+}
+
+fn made_of_vecs(heap: Global) -> Result<ScriptBackplane<'static, u8>, AllocError> {
+    let records = vec![in heap; NOTE, UNCOUNTED]?;
+    let slips = vec![in heap; 6]?;
+    Ok(ScriptBackplane::new(4, 8, records, 1, slips))
+}
+
+#[test]
+fn lists_that_are_handed_over(rt: HostRuntime) -> Result<(), Fail> {
+    answers_as_the_example(&rt, made_of_vecs(rt.alloc())?)?;
+    Ok(())
+}
+
+#[test]
+fn lists_that_are_lent(rt: HostRuntime) -> Result<(), Fail> {
+    let records = [NOTE, UNCOUNTED];
+    let slips = vec![in rt.alloc(); 6]?;
+    answers_as_the_example(
+        &rt,
+        ScriptBackplane::new(4, 8, records.as_slice(), 1, slips.as_slice()),
+    )?;
+    answers_as_the_example(&rt, ScriptBackplane::new(4, 8, &records, 1, &slips))?;
+    Ok(())
 }

@@ -22,4 +22,4 @@ returns-clause-asked g c =
     let w = c.args.work.now in
     let w' = c.firm_over.new.work in
     let r = c.firm_over.result in
-    firm_asked (tree_way same t) (tree_well same g.I.Item.tells t) plane (tree_exchange same plane) (λ b. record { plane = b; faults = t }) (λ b. refl) b b' s h h' w w' r c.firm_over.ensures.ran (left_kept same t plane b b' s h h' w w' r c.firm_over.ensures.ran c.firm_over.ensures.left c.firm_over.auto.work)
+    firm_asked (tree_way same t) (tree_well same g.met.I.Item.tells t) plane (tree_exchange same plane) (λ b. record { plane = b; faults = t }) (λ b. refl) b b' s h h' w w' r c.firm_over.ensures.ran (left_kept same t plane b b' s h h' w w' r c.firm_over.ensures.ran c.firm_over.ensures.left c.firm_over.auto.work)

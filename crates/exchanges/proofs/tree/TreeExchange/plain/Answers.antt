@@ -9,4 +9,4 @@ returns g c =
     let same = g.I.Item.same in
     let plane = g.B.Backplane.plane in
     let t = c.args.self.now.faults in
-    plain_asked (tree_way same t) (tree_well same g.I.Item.tells t) plane (tree_exchange same plane) (λ b. record { plane = b; faults = t }) (λ b. refl) c.args.self.now.plane c.plain_over.new.b c.args.sent.now c.args.heard.now c.plain_over.new.heard c.plain_over.result c.plain_over.ensures
+    plain_asked (tree_way same t) (tree_well same g.met.I.Item.tells t) plane (tree_exchange same plane) (λ b. record { plane = b; faults = t }) (λ b. refl) c.args.self.now.plane c.plain_over.new.b c.args.sent.now c.args.heard.now c.plain_over.new.heard c.plain_over.result c.plain_over.ensures

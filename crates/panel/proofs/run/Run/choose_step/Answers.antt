@@ -32,6 +32,6 @@ returns g c =
     ∙ (ap (λ k. put k (picks (after m)) slots n) c.from.ensures ∙ ap (λ k. put f (picks (after k)) slots n) c.n-n.ensures) in
     record {
       kept = c.hear_all.ensures.kept;
-      slots = picks_chosen g.L.Ordered.total n t f x slots blocks claims c.args.self.now.phase.first filled room kept _ chosen;
+      slots = picks_chosen g.met.L.Ordered.total n t f x slots blocks claims c.args.self.now.phase.first filled room kept _ chosen;
       exchange = c.hear_all.ensures.leaves;
     }
