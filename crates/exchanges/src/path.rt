@@ -122,6 +122,9 @@ impl Path {
         ensures off { on result (trail self.boards self.len) ≡ false }
         ensures next { result - lower result (trail self.boards self.len) ≡ i }
     {
+        if self.len == 0 {
+            return i;
+        }
         (0..self.shape.n).filter(|q| !self.has(*q)).nth(i).unwrap()
     }
 
