@@ -1,12 +1,13 @@
 // A kind that is sorted one way, and voted on the other way: what a label owes is an order, and no `Ord`.
 ghost use Rattle.labels_tests.specs.Ranks.{rank_order, rank_total};
 
+use labels::frame_number::FrameNumber;
 use labels::order::Ordered;
 use std::cmp::Ordering;
 
 #[derive(Clone, Copy, PartialEq, Eq, PartialOrd, Ord, Debug)]
 pub struct Rank {
-    pub number: u32,
+    pub frame: FrameNumber,
 }
 
 impl Ordered for Rank {
@@ -14,15 +15,9 @@ impl Ordered for Rank {
 
     ghost total = { rank_total };
 
-    // The greater number comes first.
-    // Kept in words: it is what the derived comparison is not.
+    // The later frame comes first.
+    // Kept a method: it is what the derived comparison is not.
     fn compare(self, other: Rank) -> Ordering {
-        if other.number < self.number {
-            Ordering::Less
-        } else if self.number < other.number {
-            Ordering::Greater
-        } else {
-            Ordering::Equal
-        }
+        other.frame.compare(self.frame)
     }
 }

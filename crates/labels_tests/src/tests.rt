@@ -122,7 +122,9 @@ fn kinds_by_number(rt: HostRuntime) {
 
 #[test]
 fn an_order_apart_from_ord(rt: HostRuntime) {
-    let [low, high, mid] = [3, 7, 5].map(|number| Rank { number });
+    let [low, high, mid] = [3, 7, 5].map(|number| Rank {
+        frame: FrameNumber::new(number),
+    });
     assert!(rt; low < high);
     assert!(rt; high.is_below(low));
     assert!(rt; !high.is_equal(low));

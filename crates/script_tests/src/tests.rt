@@ -10,7 +10,6 @@ use script::reading::read;
 use script::script_plane::ScriptBackplane;
 use script::writing::write;
 use std::alloc::{AllocError, Global};
-use std::process::Abort;
 use std::test::Fail;
 
 const EXAMPLE: [u8; 32] = [
@@ -187,23 +186,32 @@ const UNCOUNTED: Record = Record {
     forged: 0,
 };
 
-// What four boards hear of board 3, which is bad, and of board 0, under the record of the example alone.
-fn answers_as_the_example(
-    rt: &impl Abort,
-    mut plane: ScriptBackplane<'_, u8>,
-) -> Result<(), Refusal> {
-    assert_eq!(rt; plane.carry(3, 0, Some(9)), Some(9));
+// What four boards hear under the record of the example alone, where each board sends 9: board 0 of
+// board 3 before the round of the record; in it boards 0 to 3 of board 3, which is bad, board 1 of
+// board 0, and a board that there is not; and board 2 of board 3 after it.
+const HEARD: [Option<u8>; 8] = [
+    Some(9),
+    None,
+    None,
+    Some(6),
+    Some(9),
+    Some(9),
+    None,
+    Some(9),
+];
+
+fn heard(mut plane: ScriptBackplane<'_, u8>) -> Result<[Option<u8>; 8], Refusal> {
+    let before = plane.carry(3, 0, Some(9));
     plane.turn()?;
-    assert_eq!(rt; (plane.boards(), plane.round()), (4, 1));
-    assert_eq!(rt; plane.carry(3, 0, Some(9)), None);
-    assert_eq!(rt; plane.carry(3, 1, Some(9)), None);
-    assert_eq!(rt; plane.carry(3, 2, Some(9)), Some(6));
-    assert_eq!(rt; plane.carry(3, 3, Some(9)), Some(9));
-    assert_eq!(rt; plane.carry(0, 1, Some(9)), Some(9));
-    assert_eq!(rt; plane.carry(3, 4, Some(9)), None);
+    let lost = plane.carry(3, 0, Some(9));
+    let lost_too = plane.carry(3, 1, Some(9));
+    let forged = plane.carry(3, 2, Some(9));
+    let own = plane.carry(3, 3, Some(9));
+    let sound = plane.carry(0, 1, Some(9));
+    let no_board = plane.carry(3, 4, Some(9));
     plane.turn()?;
-    assert_eq!(rt; plane.carry(3, 2, Some(9)), Some(9));
-    Ok(())
+    let after = plane.carry(3, 2, Some(9));
+    Ok([before, lost, lost_too, forged, own, sound, no_board, after])
 }
 
 fn made_of_vecs(heap: Global) -> Result<ScriptBackplane<'static, u8>, AllocError> {
@@ -214,7 +222,9 @@ fn made_of_vecs(heap: Global) -> Result<ScriptBackplane<'static, u8>, AllocError
 
 #[test]
 fn lists_that_are_handed_over(rt: HostRuntime) -> Result<(), Fail> {
-    answers_as_the_example(&rt, made_of_vecs(rt.alloc())?)?;
+    let plane = made_of_vecs(rt.alloc())?;
+    assert_eq!(rt; (plane.boards(), plane.round()), (4, 0));
+    assert_eq!(rt; heard(plane)?, HEARD);
     Ok(())
 }
 
@@ -222,10 +232,9 @@ fn lists_that_are_handed_over(rt: HostRuntime) -> Result<(), Fail> {
 fn lists_that_are_lent(rt: HostRuntime) -> Result<(), Fail> {
     let records = [NOTE, UNCOUNTED];
     let slips = vec![in rt.alloc(); 6]?;
-    answers_as_the_example(
-        &rt,
-        ScriptBackplane::new(4, 8, records.as_slice(), 1, slips.as_slice()),
-    )?;
-    answers_as_the_example(&rt, ScriptBackplane::new(4, 8, &records, 1, &slips))?;
+    let of_slices = ScriptBackplane::new(4, 8, records.as_slice(), 1, slips.as_slice());
+    assert_eq!(rt; heard(of_slices)?, HEARD);
+    let of_others = ScriptBackplane::new(4, 8, &records, 1, &slips);
+    assert_eq!(rt; heard(of_others)?, HEARD);
     Ok(())
 }
